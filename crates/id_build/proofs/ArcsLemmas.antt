@@ -32,7 +32,8 @@ and-true false b e = cc
 pub dests_from-among : (a : Arc) (ws : List Arc) → Among a ws → Among (dest_of a) (dests_from a.from a.side ws)
 dests_from-among a [] h = absurd h
 dests_from-among a (v ∷ ws) (inl i) =
-    let test : is_from a.from a.side v ≡ true = is_from-here a.from a.side v (sym (ap (λ z. z.from) i)) ∙ ap (λ z. beq z a.side) (sym (ap (λ z. z.side) i)) ∙
+    let test : is_from a.from a.side v ≡ true =
+    is_from-here a.from a.side v (sym (ap (λ z. z.from) i)) ∙ ap (λ z. beq z a.side) (sym (ap (λ z. z.side) i)) ∙
     beq-refl a.side in
     rw test (inl (ap dest_of i))
 dests_from-among a (v ∷ ws) (inr h) =
@@ -47,8 +48,10 @@ pub dests_from-from : (m : ℕ) (s : Bool) (d : Dest) (ws : List Arc) → Among 
 dests_from-from m s d [] h = absurd h
 dests_from-from m s d (v ∷ ws) h = at (is_from m s v) refl (dests_from-from m s d ws) h
   where
-    at : (b : Bool) → is_from m s v ≡ b → (Among d (dests_from m s ws) → Among (record { from = m; side = s; to = d.instr; port = d.port }) ws) →
-        Among d (cond b (dest_of v ∷ dests_from m s ws) (dests_from m s ws)) → Among (record { from = m; side = s; to = d.instr; port = d.port }) (v ∷ ws)
+    at : (b : Bool) → is_from m s v ≡ b
+        → (Among d (dests_from m s ws) → Among (record { from = m; side = s; to = d.instr; port = d.port }) ws) →
+        Among d (cond b (dest_of v ∷ dests_from m s ws) (dests_from m s ws))
+        → Among (record { from = m; side = s; to = d.instr; port = d.port }) (v ∷ ws)
     at true e f (inl i) =
         let both = and-true (eqb v.from m) (beq v.side s) e in
         let from = eqb-true v.from m both.0 in
@@ -64,7 +67,8 @@ pub AllDiffer-dests : (m : ℕ) (s : Bool) (ws : List Arc) → AllDiffer ws → 
 AllDiffer-dests m s [] d = tt
 AllDiffer-dests m s (v ∷ ws) d = at (is_from m s v) refl (AllDiffer-dests m s ws d.1)
   where
-    at : (b : Bool) → is_from m s v ≡ b → AllDiffer (dests_from m s ws) → AllDiffer (cond b (dest_of v ∷ dests_from m s ws) (dests_from m s ws))
+    at : (b : Bool) → is_from m s v ≡ b → AllDiffer (dests_from m s ws)
+        → AllDiffer (cond b (dest_of v ∷ dests_from m s ws) (dests_from m s ws))
     at true e f = (
       λ i. (
           let both = and-true (eqb v.from m) (beq v.side s) e in
@@ -72,18 +76,21 @@ AllDiffer-dests m s (v ∷ ws) d = at (is_from m s v) refl (AllDiffer-dests m s 
           let side = beq-true v.side s both.1 in
           let A : Arc → Type 0 = λ x. Among x ws in
           d.0 (subst A (ap (λ x. record { from = x; side = s; to = v.to; port = v.port }) (sym from) ∙
-          ap (λ x. record { from = v.from; side = x; to = v.to; port = v.port }) (sym side)) (dests_from-from m s (dest_of v) ws i))
+          ap (λ x. record { from = v.from; side = x; to = v.to; port = v.port }) (sym side))
+          (dests_from-from m s (dest_of v) ws i))
           ),
       f,
     )
     at false e f = f
 
 -- the arcs that a row is fed by are among all
-pub arcs_in-among : (P : Checked) (F ns : List ℕ) (n : ℕ) (f : Feed) → Among n ns → Among f (feeds P n) → Among (arc_of F n f) (arcs_in P F ns)
+pub arcs_in-among : (P : Checked) (F ns : List ℕ) (n : ℕ) (f : Feed) → Among n ns → Among f (feeds P n)
+    → Among (arc_of F n f) (arcs_in P F ns)
 arcs_in-among P F [] n f h i = absurd h
 arcs_in-among P F (x ∷ xs) n f (inl e) i =
     let Z : ℕ → Type 0 = λ z. Among (arc_of F n f) (arcs_in P F (z ∷ xs)) in
-    subst Z e (Among-left (arc_of F n f) (map (arc_of F n) (feeds P n)) (arcs_in P F xs) (Among-map (arc_of F n) f (feeds P n) i))
+    subst Z e
+    (Among-left (arc_of F n f) (map (arc_of F n) (feeds P n)) (arcs_in P F xs) (Among-map (arc_of F n) f (feeds P n) i))
 arcs_in-among P F (x ∷ xs) n f (inr h) i =
     Among-right (arc_of F n f) (map (arc_of F x) (feeds P x)) (arcs_in P F xs) (arcs_in-among P F xs n f h i)
 
@@ -99,16 +106,21 @@ pub arcs_in-from : (P : Checked) (F ns : List ℕ) (a : Arc) → Among a (arcs_i
 arcs_in-from P F [] a h = absurd h
 arcs_in-from P F (x ∷ xs) a h =
     elim (Among-either a (map (arc_of F x) (feeds P x)) (arcs_in P F xs) h) [
-      | inl i ↦ (let from = Among-from_map (arc_of F x) a (feeds P x) i in record { n = x; fed = from.0; at = inl refl; among = from.1; is = from.2 })
-      | inr i ↦ (let rest = arcs_in-from P F xs a i in record { n = rest.n; fed = rest.fed; at = inr rest.at; among = rest.among; is = rest.is })
+      | inl i ↦ (let from = Among-from_map (arc_of F x) a (feeds P x) i in
+          record { n = x; fed = from.0; at = inl refl; among = from.1; is = from.2 })
+      | inr i ↦ (let rest = arcs_in-from P F xs a i in
+          record { n = rest.n; fed = rest.fed; at = inr rest.at; among = rest.among; is = rest.is })
     ]
 
 -- what two rows are fed by are two arcs, and so are two feeds of one
 abbrev pub Tells : (P : Checked) (F os : List ℕ) → Type 0
-Tells P F os = (n n' : ℕ) (f f' : Feed) → Among n os → Among n' os → Among f (feeds P n) → Among f' (feeds P n') → arc_of F n f ≡ arc_of F n' f' →
+Tells P F os =
+    (n n' : ℕ) (f f' : Feed) → Among n os → Among n' os → Among f (feeds P n) → Among f' (feeds P n')
+    → arc_of F n f ≡ arc_of F n' f' →
     (n ≡ n') × (f ≡ f')
 
-AllDiffer-map : {A B : Type 0} (g : A → B) (xs : List A) → ((x y : A) → Among x xs → Among y xs → g x ≡ g y → x ≡ y) → AllDiffer xs → AllDiffer (map g xs)
+AllDiffer-map : {A B : Type 0} (g : A → B) (xs : List A) → ((x y : A) → Among x xs → Among y xs → g x ≡ g y → x ≡ y)
+    → AllDiffer xs → AllDiffer (map g xs)
 AllDiffer-map g [] f d = tt
 AllDiffer-map {A = A} g (x ∷ xs) f d = (
   λ h. (let from = Among-from_map g (g x) xs h in let Z : A →
@@ -117,7 +129,8 @@ AllDiffer-map {A = A} g (x ∷ xs) f d = (
 )
 
 -- no arc stands twice
-pub AllDiffer-arcs_in : (P : Checked) (F os : List ℕ) → Tells P F os → ((n : ℕ) → Among n os → AllDiffer (feeds P n)) → (ns : List ℕ) →
+pub AllDiffer-arcs_in : (P : Checked) (F os : List ℕ) → Tells P F os → ((n : ℕ) → Among n os → AllDiffer (feeds P n))
+    → (ns : List ℕ) →
     ((n : ℕ) → Among n ns → Among n os) → AllDiffer ns → AllDiffer (arcs_in P F ns)
 AllDiffer-arcs_in P F os tells once [] sub d = tt
 AllDiffer-arcs_in P F os tells once (x ∷ xs) sub d =
@@ -129,5 +142,6 @@ AllDiffer-arcs_in P F os tells once (x ∷ xs) sub d =
     let from = Among-from_map (arc_of F x) a (feeds P x) i in
     let fed = arcs_in-from P F xs a j in
     let A : ℕ → Type 0 = λ z. Among z xs in
-    d.0 (subst A (sym (tells x fed.n from.0 fed.fed here (sub fed.n (inr fed.at)) from.1 fed.among (sym from.2 ∙ fed.is)).0) fed.at)
+    d.0 (subst A
+    (sym (tells x fed.n from.0 fed.fed here (sub fed.n (inr fed.at)) from.1 fed.among (sym from.2 ∙ fed.is)).0) fed.at)
     ))

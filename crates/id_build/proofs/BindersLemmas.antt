@@ -43,13 +43,15 @@ kept_use lo hi bs (Some b) x h = go (is_outside lo hi b) (has bs b)
     go false u = h
 
 new_use : (lo hi : ℕ) (bs : List ℕ) (b : ℕ) → is_outside lo hi b ≡ true → Among b (with_use lo hi bs (Some b))
-new_use lo hi bs b out = subst (λ t. Among b (cond t (cond (has bs b) bs (bs ++ b ∷ [])) bs)) (sym out) (go (has bs b) refl)
+new_use lo hi bs b out =
+    subst (λ t. Among b (cond t (cond (has bs b) bs (bs ++ b ∷ [])) bs)) (sym out) (go (has bs b) refl)
   where
     go : (u : Truth) → has bs b ≡ u → Among b (cond u bs (bs ++ b ∷ []))
     go true e = has_among bs b e
     go false e = Among-right b bs (b ∷ []) (inl refl)
 
-from_use : (lo hi : ℕ) (bs : List ℕ) (o : Option ℕ) (x : ℕ) → Among x (with_use lo hi bs o) → Among x bs ⊎ ((o ≡ Some x) × (is_outside lo hi x ≡ true))
+from_use : (lo hi : ℕ) (bs : List ℕ) (o : Option ℕ) (x : ℕ) → Among x (with_use lo hi bs o)
+    → Among x bs ⊎ ((o ≡ Some x) × (is_outside lo hi x ≡ true))
 from_use lo hi bs None x h = inl h
 from_use lo hi bs (Some b) x h = go (is_outside lo hi b) (has bs b) refl h
   where
@@ -67,20 +69,24 @@ from_use lo hi bs (Some b) x h = go (is_outside lo hi b) (has bs b) refl h
 
 module _ (f : ℕ → Option ℕ) (lo hi : ℕ) where
   -- a binder outside that a row means is imported
-  pub imports_have : (m k b : ℕ) → k < m → f (lo + k) ≡ Some b → is_outside lo hi b ≡ true → Among b (imports_by f lo hi m)
+  pub imports_have : (m k b : ℕ) → k < m → f (lo + k) ≡ Some b → is_outside lo hi b ≡ true
+      → Among b (imports_by f lo hi m)
   imports_have zero k b less binds out = absurd (omega (arith, less))
   imports_have (suc m) k b less binds out =
       elim (cases_eq k m) [
-        | inl is ↦ subst (λ o. Among b (with_use lo hi (imports_by f lo hi m) o)) (sym (ap (λ z. f (lo + z)) (sym is) ∙ binds))
+        | inl is ↦ subst (λ o. Among b (with_use lo hi (imports_by f lo hi m) o))
+            (sym (ap (λ z. f (lo + z)) (sym is) ∙ binds))
             (new_use lo hi (imports_by f lo hi m) b out)
-        | inr other ↦ kept_use lo hi (imports_by f lo hi m) (f (lo + m)) b (imports_have m k b (below k m less other) binds out)
+        | inr other ↦ kept_use lo hi (imports_by f lo hi m) (f (lo + m)) b
+            (imports_have m k b (below k m less other) binds out)
       ]
     where
       below : (k m : ℕ) → k < suc m → (k ≡ m → ⊥) → k < m
       below k m less other = omega (arith, less, other)
 
   -- and what is imported is such a binder
-  pub imports_from : (m b : ℕ) → Among b (imports_by f lo hi m) → (k : ℕ) × (k < m) × (f (lo + k) ≡ Some b) × (is_outside lo hi b ≡ true)
+  pub imports_from : (m b : ℕ) → Among b (imports_by f lo hi m)
+      → (k : ℕ) × (k < m) × (f (lo + k) ≡ Some b) × (is_outside lo hi b ≡ true)
   imports_from zero b h = absurd h
   imports_from (suc m) b h =
       elim (from_use lo hi (imports_by f lo hi m) (f (lo + m)) b h) [
@@ -126,10 +132,12 @@ takes_statements (Def x h k b) z a e = absurd (false≢true e)
 takes_statements _ z a e = absurd (false≢true e)
 
 -- a list that goes on over rows of variables has their `next`s
-nexts_have : (P : Checked) (v n i : ℕ) → v ≤ i → i < v + n → ((j : ℕ) → v ≤ j → j ≤ i → is_variable (node P j) ≡ true) → Among (next_of P i) (nexts_from P v n)
+nexts_have : (P : Checked) (v n i : ℕ) → v ≤ i → i < v + n → ((j : ℕ) → v ≤ j → j ≤ i → is_variable (node P j) ≡ true)
+    → Among (next_of P i) (nexts_from P v n)
 nexts_have P v zero i low high all = absurd (omega (arith, low, high))
 nexts_have P v (suc n) i low high all =
-    subst (λ (t : Truth). Among (next_of P i) (cond t (next_of P v ∷ nexts_from P (suc v) n) [])) (sym (all v (omega arith) low)) (elim (cases_eq i v) [
+    subst (λ (t : Truth). Among (next_of P i) (cond t (next_of P v ∷ nexts_from P (suc v) n) []))
+    (sym (all v (omega arith) low)) (elim (cases_eq i v) [
       | inl is ↦ inl (ap (next_of P) is)
       | inr other ↦
           let up : suc v ≤ i = above v i low other in
@@ -148,7 +156,8 @@ module _ (P : Checked) where
   behind_carried h e c i x low is = go x.carried refl
     where
       apart : (j : ℕ) {k : Kind} → node P j ≡ Carried k → i ≡ j → ⊥
-      apart j f same = (let bad : is_variable (node P j) ≡ true = ap (λ z. is_variable (node P z)) (sym same) ∙ ap is_variable is in
+      apart j f same =
+          (let bad : is_variable (node P j) ≡ true = ap (λ z. is_variable (node P z)) (sym same) ∙ ap is_variable is in
           false≢true (sym (ap is_variable f) ∙ bad))
 
       go : {d : ℕ} → AreCarried (rows P) h d → d ≡ c → h + c < i
@@ -206,7 +215,8 @@ module _ (P : Checked) where
         let n = next_is P i variable_in variable_node in
         let there = ((T P).next_in (next_of P i) (block P (next_of P i)) n.index n.name
         (record { outer = n.outer; value = n.value; within = n.within; block = refl; node = n.node })).2 in
-        let same_block : block P (next_of P i) ≡ block P m = sym there.variable_block ∙ ap (block P) n.is ∙ variable_block in
+        let same_block : block P (next_of P i) ≡ block P m =
+        sym there.variable_block ∙ ap (block P) n.is ∙ variable_block in
         let same_index : n.index ≡ k = omega (arith, n.is, same_block) in
         let as_next : IsNextOf (rows P) (next_of P i) (block P m) k n.name =
         record {
@@ -226,19 +236,28 @@ module _ (P : Checked) where
         let i = variable_row in
         let c = (T P).loop_of i variable_in (ap is_in_loop variable_node) in
         let y = (T P).loop_is c.0 (block P i) c.1 in
-        let before : i + 1 < c.0 = not_span P c.0 (block P i) (c.1).switches (c.1).last i y is_variable refl c.2 (ap is_variable variable_node) in
-        let stands = y.stands i ((T P).block i (inner P i is_variable refl variable_in (ap is_variable variable_node))).0 before refl in
-        let within_entries = subst (λ z. StandsAt (block P i) y.entries (c.1).switches y.turn y.body c.0 z i) variable_node stands in
+        let before : i + 1 < c.0 =
+        not_span P c.0 (block P i) (c.1).switches (c.1).last i y is_variable refl c.2 (ap is_variable variable_node) in
+        let stands =
+        y.stands i ((T P).block i (inner P i is_variable refl variable_in (ap is_variable variable_node))).0 before
+        refl in
+        let within_entries =
+        subst (λ z. StandsAt (block P i) y.entries (c.1).switches y.turn y.body c.0 z i) variable_node stands in
         let many : length (carried P h) ≡ y.carried =
-        ap (λ g. length (carried P g)) (sym variable_block) ∙ carried_is P (block P i) y.entries y.carried y.before_test in
-        let low : block P i + y.carried < i = behind_carried (block P i) y.entries y.carried i y.before_test within_entries.0 variable_node in
+        ap (λ g. length (carried P g)) (sym variable_block)
+        ∙ carried_is P (block P i) y.entries y.carried y.before_test in
+        let low : block P i + y.carried < i =
+        behind_carried (block P i) y.entries y.carried i y.before_test within_entries.0 variable_node in
         let first : first_variable P h ≤ i = omega (arith, many, low, variable_block) in
         let all : (j : ℕ) → first_variable P h ≤ j → j ≤ i → is_variable (node P j) ≡ true =
-        (λ j l u. y.before_test.variable j (omega (arith, l, many, variable_block)) (omega (arith, u, within_entries.1))) in
-        subst (λ z. Among z (nexts_of P h)) next_of_variable (nexts_have P (first_variable P h) (length (rows P)) i first (omega (arith, variable_in)) all)
+        (λ j l u. y.before_test.variable j (omega (arith, l, many, variable_block))
+        (omega (arith, u, within_entries.1))) in
+        subst (λ z. Among z (nexts_of P h)) next_of_variable
+        (nexts_have P (first_variable P h) (length (rows P)) i first (omega (arith, variable_in)) all)
 
     -- it stands right in the body of its loop
-    pub next_side : (w : ℕ) × (t : ℕ) × (w < length (rows P)) × (node P w ≡ Switches t) × (block P w ≡ block P m) × (region P m ≡ arm_at w true)
+    pub next_side : (w : ℕ) × (t : ℕ) × (w < length (rows P)) × (node P w ≡ Switches t) × (block P w ≡ block P m)
+        × (region P m ≡ arm_at w true)
     next_side =
         let z = (T P).next_in m (block P m) k x next_here in
         let c = z.1 in
@@ -248,7 +267,8 @@ module _ (P : Checked) where
         (c.switches, y.test.test, low, y.test.node, y.test.block, (z.2).region)
 
   -- what lies in a side of switches, and is none, lies where they stand
-  pub through_side : {z : Region} (w t : ℕ) → w < length (rows P) → node P w ≡ Switches t → is_switches (node P z.head) ≡ false → LiesIn z (arm_at w true)
+  pub through_side : {z : Region} (w t : ℕ) → w < length (rows P) → node P w ≡ Switches t
+      → is_switches (node P z.head) ≡ false → LiesIn z (arm_at w true)
       → LiesIn z (region P w)
   through_side {z} w t within is other l = elim (step_side P w t true is l) [
     | inl e ↦ absurd (false≢true (sym other ∙ ap (λ (y : Region). is_switches (node P y.head)) e ∙ ap is_switches is))
@@ -270,11 +290,13 @@ module _ (P : Checked) where
           let s = next_side b y k o v x.within is in
           let there : region P s.0 ≡ top (block P b) = side_top s.0 s.1 s.2 s.3 ∙ ap top s.4 in
           subst (λ z. LiesIn z (region P b)) (sym (ap (home_in (block P b) (region P b)) is))
-          (subst (LiesIn (top (block P b))) (sym s.5) (in_side s.2 (ap is_switches s.3) (subst (LiesIn (top (block P b))) (sym there) here)))
+          (subst (LiesIn (top (block P b))) (sym s.5)
+          (in_side s.2 (ap is_switches s.3) (subst (LiesIn (top (block P b))) (sym there) here)))
       go _ is e = absurd (false≢true e)
 
   -- and what lies round the binder, and is no side, lies round its home
-  pub through_home : {z : Region} (b : ℕ) → Binds b → is_switches (node P z.head) ≡ false → LiesIn z (region P b) → LiesIn z (home (rows P) b)
+  pub through_home : {z : Region} (b : ℕ) → Binds b → is_switches (node P z.head) ≡ false → LiesIn z (region P b)
+      → LiesIn z (home (rows P) b)
   through_home {z} b x other l = go (node P b) refl x.binds
     where
       go : (m : Node) → node P b ≡ m → is_binder m ≡ true → LiesIn z (home (rows P) b)
@@ -284,10 +306,12 @@ module _ (P : Checked) where
       go (Next y k o v) is e =
           let s = next_side b y k o v x.within is in
           let there : region P s.0 ≡ top (block P b) = side_top s.0 s.1 s.2 s.3 ∙ ap top s.4 in
-          subst (LiesIn z) (there ∙ sym (ap (home_in (block P b) (region P b)) is)) (through_side s.0 s.1 s.2 s.3 other (subst (LiesIn z) s.5 l))
+          subst (LiesIn z) (there ∙ sym (ap (home_in (block P b) (region P b)) is))
+          (through_side s.0 s.1 s.2 s.3 other (subst (LiesIn z) s.5 l))
       go _ is e = absurd (false≢true e)
 
-  -- what the label of a binder gives belongs to its home; the label stands there too, or, of an index, right in the loop
+  -- what the label of a binder gives belongs to its home; the label stands there too, or, of an index, right in the
+  -- loop
   pub record Labelled (b : ℕ) : Type 0 where
     pub within : label P b < length (rows P)
     pub marks : is_label (node P (label P b)) ≡ true
@@ -297,8 +321,8 @@ module _ (P : Checked) where
   pub labelled : (b : ℕ) → Binds b → Labelled b
   labelled b x = go (node P b) refl x.binds
     where
-      by : (i j : ℕ) → label P b ≡ i → label_home P b ≡ j → i < length (rows P) → is_label (node P i) ≡ true → region P j ≡ home (rows P) b
-          → (region P i).side ≡ (region P j).side → Labelled b
+      by : (i j : ℕ) → label P b ≡ i → label_home P b ≡ j → i < length (rows P) → is_label (node P i) ≡ true
+          → region P j ≡ home (rows P) b → (region P i).side ≡ (region P j).side → Labelled b
       by i j is at low mark e same = record {
         within = subst (λ z. z < length (rows P)) (sym is) low;
         marks = ap (λ z. is_label (node P z)) is ∙ mark;
@@ -314,7 +338,8 @@ module _ (P : Checked) where
           by b b (ap (label_by (block P b) b) is) (ap (home_by (block P b) b) is) x.within (ap is_label is)
           (sym (ap (home_in (block P b) (region P b)) is)) refl
       go (Next y k o v) is e =
-          by (block P b + 1 + k) (block P b + 1 + k) (ap (label_by (block P b) b) is) (ap (home_by (block P b) b) is) (variable_in b y k o v x.within is)
+          by (block P b + 1 + k) (block P b + 1 + k) (ap (label_by (block P b) b) is) (ap (home_by (block P b) b) is)
+          (variable_in b y k o v x.within is)
           (ap is_label (variable_node b y k o v x.within is))
           (variable_top b y k o v x.within is ∙ sym (ap (home_in (block P b) (region P b)) is)) refl
       go (Index y) is e =
@@ -323,21 +348,27 @@ module _ (P : Checked) where
           let at = carried_nodes z.before_test.carried c.2 in
           let low = switches_low z in
           let high = switches_high z in
-          by (block P b + 1) b (ap (label_by (block P b) b) is) (ap (home_by (block P b) b) is) (omega (arith, low, high, (c.1).within)) (ap is_label at.0)
+          by (block P b + 1) b (ap (label_by (block P b) b) is) (ap (home_by (block P b) b) is)
+          (omega (arith, low, high, (c.1).within)) (ap is_label at.0)
           (sym (ap (home_in (block P b) (region P b)) is))
-          (ap (λ (r : Region). r.side) (z.before_test.stands (block P b + 1) (omega arith) (omega (arith, z.before_test.low, c.2))).1
+          (ap (λ (r : Region). r.side)
+          (z.before_test.stands (block P b + 1) (omega arith) (omega (arith, z.before_test.low, c.2))).1
           ∙ sym (ap (λ (r : Region). r.side) (index_region P b y x.within is)))
       go _ is e = absurd (false≢true e)
 
   -- a parameter stands in no loop's block right
-  pub param_elsewhere : (b x : ℕ) (k : Kind) {s : ℕ} → b < length (rows P) → node P b ≡ Param x k → node P (block P b) ≡ LoopHead s → ⊥
+  pub param_elsewhere : (b x : ℕ) (k : Kind) {s : ℕ} → b < length (rows P) → node P b ≡ Param x k
+      → node P (block P b) ≡ LoopHead s → ⊥
   param_elsewhere b x k within is loop =
       let t = T P in
       let d = t.def_of b (inner P b is_binder refl within (ap is_binder is)) in
       let ps = t.params d.row d.head d.def in
       let head = (t.head_is d.row (d.def).name d.head (d.def).body (d.def).result (d.def).within (d.def).node).0 in
-      let above : d.head < b = strictly d.head b d.low (λ e. false≢true (sym (ap is_param head) ∙ ap (λ z. is_param (node P z)) e ∙ ap is_param is)) in
-      let below : b < d.row = strictly b d.row d.high (λ e. false≢true (sym (ap is_param (d.def).node) ∙ ap (λ z. is_param (node P z)) (sym e)
+      let above : d.head < b =
+      strictly d.head b d.low
+      (λ e. false≢true (sym (ap is_param head) ∙ ap (λ z. is_param (node P z)) e ∙ ap is_param is)) in
+      let below : b < d.row =
+      strictly b d.row d.high (λ e. false≢true (sym (ap is_param (d.def).node) ∙ ap (λ z. is_param (node P z)) (sym e)
       ∙ ap is_param is)) in
       let few : b ≤ d.head + ps.count = elim (cases_lt (d.head + ps.count) b) [
         | inl l ↦ absurd (false≢true (sym (ps.rest b l below) ∙ ap is_param is))

@@ -91,14 +91,16 @@ none_behind P h (suc n) l e m k = elim (cases_lt n (end_of P h)) [
 ]
 
 -- the parameters of a procedure stand between its head and its definition
-pub params_between : (P : Checked) (h : ℕ) → h < length (rows P) → is_head (node P h) ≡ true → params_below (rows P) h (end_of P h) ≡ params_at (rows P) h
+pub params_between : (P : Checked) (h : ℕ) → h < length (rows P) → is_head (node P h) ≡ true
+    → params_below (rows P) h (end_of P h) ≡ params_at (rows P) h
 params_between P h l t =
     let e = head_of (node P h) t in
     let d = end_is P (table_of P) h l e in
     sym (none_behind P h (length (rows P)) l e (omega (arith, d.within)) (omega arith))
 
 -- none stands up to its head
-pub params_start : (P : Checked) (h : ℕ) → h < length (rows P) → is_head (node P h) ≡ true → params_below (rows P) h (h + 1) ≡ []
+pub params_start : (P : Checked) (h : ℕ) → h < length (rows P) → is_head (node P h) ≡ true
+    → params_below (rows P) h (h + 1) ≡ []
 params_start P h l t =
     let next : h + 1 ≡ suc h = omega arith in
     let no : takes P h h ≡ false = ap (λ n. is_param n && nat_eq (at (rows P) h).block h) (head_of (node P h) t) in
@@ -130,9 +132,11 @@ params_stop P h n l t low high out =
     let none : (i : ℕ) → n ≤ i → i < end_of P h → takes P h i ≡ false =
     λ i from to. ap (λ b. b && nat_eq (at (rows P) i).block h) (ps.rest i (omega (arith, past, from)) to) in
     let all : n + (end_of P h - n) ≡ end_of P h = omega (arith, high) in
-    sym (go (end_of P h - n) (λ i from to. none i from (omega (arith, to, high)))) ∙ ap (params_below (rows P) h) all ∙ params_between P h l t
+    sym (go (end_of P h - n) (λ i from to. none i from (omega (arith, to, high)))) ∙ ap (params_below (rows P) h) all
+    ∙ params_between P h l t
   where
-    go : (k : ℕ) → ((i : ℕ) → n ≤ i → i < n + k → takes P h i ≡ false) → params_below (rows P) h (n + k) ≡ params_below (rows P) h n
+    go : (k : ℕ) → ((i : ℕ) → n ≤ i → i < n + k → takes P h i ≡ false)
+        → params_below (rows P) h (n + k) ≡ params_below (rows P) h n
     go zero none = ap (params_below (rows P) h) (add-zero n)
     go (suc k) none =
         let next : n + suc k ≡ suc (n + k) = omega arith in
@@ -147,16 +151,19 @@ entries_next P F xs new h n t e f =
     let next : suc n ≡ n + 1 = omega arith in
     let more : params_below (rows P) h (suc n) ≡ params_below (rows P) h n ++ n ∷ [] =
     ap (λ b. cond b (params_below (rows P) h n ++ n ∷ []) (params_below (rows P) h n)) t in
-    f ∙ ap (λ l. l ++ number_by F n 0 ∷ []) e ∙ sym (map-append (λ x. number_by F x 0) (params_below (rows P) h n) (n ∷ []))
+    f ∙ ap (λ l. l ++ number_by F n 0 ∷ []) e
+    ∙ sym (map-append (λ x. number_by F x 0) (params_below (rows P) h n) (n ∷ []))
     ∙ ap (map (λ x. number_by F x 0)) (sym more ∙ ap (params_below (rows P) h) next)
 
 -- one more row may be one more head, with its block
-pub heads_next : (P : Checked) (h : ℕ) → is_head (node P h) ≡ true → heads_below (rows P) (h + 1) ≡ heads_below (rows P) h ++ h ∷ []
+pub heads_next : (P : Checked) (h : ℕ) → is_head (node P h) ≡ true
+    → heads_below (rows P) (h + 1) ≡ heads_below (rows P) h ++ h ∷ []
 heads_next P h t =
     let next : h + 1 ≡ suc h = omega arith in
     ap (heads_below (rows P)) next ∙ ap (λ b. cond b (heads_below (rows P) h ++ h ∷ []) (heads_below (rows P) h)) t
 
-pub heads_same : (P : Checked) (h : ℕ) → is_head (node P h) ≡ false → heads_below (rows P) (h + 1) ≡ heads_below (rows P) h
+pub heads_same : (P : Checked) (h : ℕ) → is_head (node P h) ≡ false
+    → heads_below (rows P) (h + 1) ≡ heads_below (rows P) h
 heads_same P h t =
     let next : h + 1 ≡ suc h = omega arith in
     ap (heads_below (rows P)) next ∙ ap (λ b. cond b (heads_below (rows P) h ++ h ∷ []) (heads_below (rows P) h)) t
@@ -169,7 +176,8 @@ loop_head_at P xs i e l = loop_heads-is P (get_or xs i 0) (subst (Among (get_or 
 -- the entries of what a loop carries on beside its variables stand before those, one row each
 pub carried_entries : (P : Checked) (F : List ℕ) (h : ℕ)
     → map (λ (q : Entry). number_by F q.row q.part) (variable_entries (h + 1) (carried P h ++ nexts_of P h))
-    ≡ map (λ (q : Entry). number_by F q.row q.part) (map param_entry (carried P h) ++ variable_entries (first_variable P h) (nexts_of P h))
+    ≡ map (λ (q : Entry). number_by F q.row q.part)
+    (map param_entry (carried P h) ++ variable_entries (first_variable P h) (nexts_of P h))
 carried_entries P F h = go (has_index P h)
   where
     ns : List ℕ
@@ -180,7 +188,8 @@ carried_entries P F h = go (has_index P h)
 
     go : (t : Bool)
         → map (λ (q : Entry). number_by F q.row q.part) (variable_entries (h + 1) (cond t xs [] ++ ns))
-        ≡ map (λ (q : Entry). number_by F q.row q.part) (map param_entry (cond t xs []) ++ variable_entries (h + 1 + length (cond t xs [])) ns)
+        ≡ map (λ (q : Entry). number_by F q.row q.part)
+        (map param_entry (cond t xs []) ++ variable_entries (h + 1 + length (cond t xs [])) ns)
     go true =
         let two : h + 1 + 1 ≡ h + 2 = omega arith in
         let three : h + 1 + 1 + 1 ≡ h + 3 = omega arith in
@@ -194,8 +203,9 @@ carried_entries P F h = go (has_index P h)
     go false = ap (λ v. map (λ (q : Entry). number_by F q.row q.part) (variable_entries v ns)) (sym (add-zero (h + 1)))
 
 -- with one more block
-pub blocks_push : (P : Checked) (F : List ℕ) (xs : List ℕ) (bs new : List Block) (h : ℕ) → bs ≡ map (block_of P (number_by F)) xs
-    → new ≡ bs ++ block_of P (number_by F) h ∷ [] → new ≡ map (block_of P (number_by F)) (xs ++ h ∷ [])
+pub blocks_push : (P : Checked) (F : List ℕ) (xs : List ℕ) (bs new : List Block) (h : ℕ)
+    → bs ≡ map (block_of P (number_by F)) xs → new ≡ bs ++ block_of P (number_by F) h ∷ []
+    → new ≡ map (block_of P (number_by F)) (xs ++ h ∷ [])
 blocks_push P F xs bs new h e f =
     f ∙ ap (λ l. l ++ block_of P (number_by F) h ∷ []) e ∙ sym (map-append (block_of P (number_by F)) xs (h ∷ []))
 

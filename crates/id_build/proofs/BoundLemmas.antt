@@ -1,5 +1,6 @@
 -- A row makes no more instructions than by the number of rows in what begins at it.
-use Rattle.std.proofs.Common.{◌≡◌, ℕ, zero, suc, ◌+◌, ◌-◌, ◌*◌, ◌≤◌, ◌<◌, Bool, true, false, List, [], ◌∷◌, ◌++◌, Option, Some, None, length, ap, arith, refl}
+use Rattle.std.proofs.Common.{◌≡◌, ℕ, zero, suc, ◌+◌, ◌-◌, ◌*◌, ◌≤◌, ◌<◌, Bool, true, false, List, [], ◌∷◌, ◌++◌}
+use Rattle.std.proofs.Common.{Option, Some, None, length, ap, arith, refl}
 use Rattle.std.specs.Prelude.{if◌then◌else◌, unwrap_or}
 use Rattle.std.specs.Option.{option_or}
 use Rattle.std.proofs.lemmas.List.{length_push, length-append}
@@ -11,7 +12,8 @@ use Rattle.id_check.specs.Programs.{place, rows}
 use Rattle.id_check.specs.Scopes.{first_of}
 use Rattle.id_check.proofs.ProgramsLemmas.{table_of}
 use Rattle.id_desugar.specs.Ends.{end_at, end_of, ends_what}
-use Rattle.id_desugar.specs.Regions.{bound_of, carried, first_variable, handed, has, has_index, imports_by, imports_of, is_loop_head, is_outside, nexts_of, taken, used, with_use}
+use Rattle.id_desugar.specs.Regions.{bound_of, carried, first_variable, handed, has, has_index, imports_by, imports_of}
+use Rattle.id_desugar.specs.Regions.{is_loop_head, is_outside, nexts_of, taken, used, with_use}
 use Rattle.id_build.specs.Rows.{block, made, made_of, node}
 use Rattle.id_build.proofs.LoopsLemmas.{entries_are, head_inside, loop_rows, start_head, start_inside, switches_high}
 use Rattle.id_desugar.proofs.EndsLemmas.{row_inside}
@@ -21,7 +23,8 @@ use Rattle.id_build.proofs.SizeLemmas.{length-entries, length-split, length-star
 pub end_of-within : (P : Checked) (h : ℕ) → end_of P h ≤ length (rows P)
 end_of-within P h = below (length (rows P))
   where
-    by : (n : ℕ) (o : Option ℕ) (t : Bool) → unwrap_or o 0 ≤ n → unwrap_or (option_or o (if t then Some n else None)) 0 ≤ suc n
+    by : (n : ℕ) (o : Option ℕ) (t : Bool) → unwrap_or o 0 ≤ n
+        → unwrap_or (option_or o (if t then Some n else None)) 0 ≤ suc n
     by n (Some m) t l = omega (arith, l)
     by n None true l = omega arith
     by n None false l = omega arith
@@ -52,7 +55,8 @@ taken-length : (P : Checked) (h : ℕ) → length (taken P h) ≤ end_of P h - (
 taken-length P h = imports_by-length (used P h) (h + 1) (end_of P h) (end_of P h - (h + 1))
 
 -- nor more variables of a loop
-nexts-length : (P : Checked) (h s : ℕ) → h < length (rows P) → node P h ≡ LoopHead s → length (nexts_of P h) ≤ end_of P h - (h + 1)
+nexts-length : (P : Checked) (h s : ℕ) → h < length (rows P) → node P h ≡ LoopHead s
+    → length (nexts_of P h) ≤ end_of P h - (h + 1)
 nexts-length P h s within is =
     let z = loop_rows P h s within is in
     let count : first_variable P h + length (nexts_of P h) ≡ z.entries = entries_are P h s within is in
@@ -90,7 +94,8 @@ head-length P h s is =
 
 pub split-most : (P : Checked) (n t : ℕ) → node P n ≡ Split t → length (made P n) ≤ (end_of P n - (n + 1)) + 1
 split-most P n t is =
-    let same : length (made P n) ≡ length (made_of P n (place P n) (Split t)) = ap (λ m. length (made_of P n (place P n) m)) is in
+    let same : length (made P n) ≡ length (made_of P n (place P n) (Split t)) =
+    ap (λ m. length (made_of P n (place P n) m)) is in
     let imported : length (imports_of P n) ≡ length (taken P n) = ap (λ m. length (handed P n m)) is in
     omega (arith, same, imported, length-split P n (place P n) t, taken-length P n)
 
@@ -99,8 +104,10 @@ pub switches-most : (P : Checked) (n t : ℕ) → node P n ≡ Switches t
 switches-most P n t is =
     let g = block P n in
     let head = block_head P n (ap is_in_loop is) in
-    let same : length (made P n) ≡ length (made_of P n (place P n) (Switches t)) = ap (λ m. length (made_of P n (place P n) m)) is in
-    let imported : length (imports_of P n) ≡ length (bound_of P g ++ (nexts_of P g ++ taken P g)) = ap (λ m. length (handed P n m)) is in
+    let same : length (made P n) ≡ length (made_of P n (place P n) (Switches t)) =
+    ap (λ m. length (made_of P n (place P n) m)) is in
+    let imported : length (imports_of P n) ≡ length (bound_of P g ++ (nexts_of P g ++ taken P g)) =
+    ap (λ m. length (handed P n m)) is in
     let variables = nexts-length P g (g - 1) head.0 head.1 in
     omega (
       arith,
@@ -117,19 +124,31 @@ switches-most P n t is =
 pub start-most : (P : Checked) (n : ℕ) → node P n ≡ Start → length (made P n) ≤ 2 * (end_of P (n + 1) - (n + 1 + 1)) + 4
 start-most P n is =
     let head = start_head P n (start_inside P n is) is in
-    let same : length (made P n) ≡ length (made_of P n (place P n) Start) = ap (λ m. length (made_of P n (place P n) m)) is in
-    omega (arith, same, length-start P n (place P n), head-length P (n + 1) n head.1, nexts-length P (n + 1) n head.0 head.1, carried-length P (n + 1))
+    let same : length (made P n) ≡ length (made_of P n (place P n) Start) =
+    ap (λ m. length (made_of P n (place P n) m)) is in
+    omega (
+      arith,
+      same,
+      length-start P n (place P n),
+      head-length P (n + 1) n head.1,
+      nexts-length P (n + 1) n head.0 head.1,
+      carried-length P (n + 1),
+    )
 
-pub entries-most : (P : Checked) (n : ℕ) → node P n ≡ Entries → length (made P n) ≤ end_of P (block P n) - (block P n + 1)
+pub entries-most : (P : Checked) (n : ℕ) → node P n ≡ Entries
+    → length (made P n) ≤ end_of P (block P n) - (block P n + 1)
 entries-most P n is =
     let g = block P n in
     let head = block_head P n (ap is_in_loop is) in
-    let same : length (made P n) ≡ length (made_of P n (place P n) Entries) = ap (λ m. length (made_of P n (place P n) m)) is in
+    let same : length (made P n) ≡ length (made_of P n (place P n) Entries) =
+    ap (λ m. length (made_of P n (place P n) m)) is in
     omega (arith, same, length-entries P n (place P n), head-length P g (g - 1) head.1)
 
-pub turn-most : (P : Checked) (n : ℕ) → node P n ≡ Turn → length (made P n) ≤ (end_of P (block P n) - (block P n + 1)) + 4
+pub turn-most : (P : Checked) (n : ℕ) → node P n ≡ Turn
+    → length (made P n) ≤ (end_of P (block P n) - (block P n + 1)) + 4
 turn-most P n is =
     let g = block P n in
     let head = block_head P n (ap is_in_loop is) in
-    let same : length (made P n) ≡ length (made_of P n (place P n) Turn) = ap (λ m. length (made_of P n (place P n) m)) is in
+    let same : length (made P n) ≡ length (made_of P n (place P n) Turn) =
+    ap (λ m. length (made_of P n (place P n) m)) is in
     omega (arith, same, length-turn P n (place P n), head-length P g (g - 1) head.1, carried-length P g)

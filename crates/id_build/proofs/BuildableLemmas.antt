@@ -1,5 +1,6 @@
 -- A checked program is one that a graph can be built of.
-use Rattle.std.proofs.Common.{◌≡◌, inl, inr, ℕ, zero, suc, ◌+◌, ◌-◌, ◌<◌, ◌≤◌, Bool as Truth, true, false, List, ◌++◌, length, map, refl, ap, sym, subst, ◌∙◌, arith, length-append}
+use Rattle.std.proofs.Common.{◌≡◌, inl, inr, ℕ, zero, suc, ◌+◌, ◌-◌, ◌<◌, ◌≤◌, Bool as Truth, true, false, List, ◌++◌}
+use Rattle.std.proofs.Common.{length, map, refl, ap, sym, subst, ◌∙◌, arith, length-append}
 use Rattle.std.proofs.lemmas.Bool.{cases_eq, cases_lt, false≢true}
 use Rattle.id_value.proofs.AmongLemmas.{Among-either, Among-from_map}
 use Rattle.id_value.specs.declared.Kind.{Kind}
@@ -8,11 +9,13 @@ use Rattle.id_table.specs.declared.row.Row.{Row}
 use Rattle.id_table.specs.declared.row.Node.{Node}
 use Rattle.id_table.specs.declared.row.Node.TheVariants.{Head, Literal, Name, Unary as UnaryNode, Binary as BinaryNode}
 use Rattle.id_table.specs.declared.row.Node.TheVariants.{Split, If, Enter, Arg, Call, Block, Binding, Program}
-use Rattle.id_table.specs.declared.row.Node.TheVariants.{Start, LoopHead, Variable, Entries, Switches, Turn, Next, Reset, Loop}
+use Rattle.id_table.specs.declared.row.Node.TheVariants.{Start, LoopHead, Variable, Entries, Switches, Turn, Next}
+use Rattle.id_table.specs.declared.row.Node.TheVariants.{Reset, Loop}
 use Rattle.id_table.specs.declared.row.Node.TheVariants.{Array, Fetch, Address, Store}
 use Rattle.id_table.specs.declared.row.Node.TheVariants.{Bounds, Carried, Within, Count}
 use Rattle.id_table.specs.Rows.{arm_at, at, top}
-use Rattle.id_table.specs.Tables.{HasNear, HasOperand, HasPart, is_block, is_carried, is_enter, is_expression, is_top, is_within}
+use Rattle.id_table.specs.Tables.{HasNear, HasOperand, HasPart, is_block, is_carried, is_enter, is_expression, is_top}
+use Rattle.id_table.specs.Tables.{is_within}
 use Rattle.id_table.specs.Loops.{IsLoop, IsLoopOf, IsTest, flag, predicate}
 use Rattle.id_table.specs.Regions.{IsIfOf}
 use Rattle.id_table.specs.Turns.{IsDefOf}
@@ -23,12 +26,17 @@ use Rattle.id_check.proofs.ProgramsLemmas.{table_of}
 use Rattle.id_desugar.specs.Ends.{end_of, next_of}
 use Rattle.id_desugar.specs.Regions.{carried, has_index, imports_of, nexts_of, order_of}
 use Rattle.id_instr.specs.declared.instr.Op.TheVariants.{Next as NextOp}
-use Rattle.id_build.specs.Rows.{block, body_of, entering, entries_row, first_binder, made_of, node, output, part_of, turn_row}
+use Rattle.id_build.specs.Rows.{block, body_of, entering, entries_row, first_binder, made_of, node, output, part_of}
+use Rattle.id_build.specs.Rows.{turn_row}
 use Rattle.id_build.proofs.CallsLemmas.{enter_of_arg}
-use Rattle.id_build.proofs.EndsLemmas.{HeadOf, body_region, end_is, of_arm, of_loop, of_procedure, of_side, not_last, region_of}
-use Rattle.id_build.proofs.LoopsLemmas.{bounds_there, carried_index, carried_is, carried_nodes, entries_node, entries_stand, entries_within, index_carried}
-use Rattle.id_build.proofs.LoopsLemmas.{next_is, reset_is, start_head, switches_high, switches_low, turn_block, turn_is, turn_nodes}
-use Rattle.id_build.proofs.ImportsLemmas.{first_seen, loop_seen, name_seen, split_seen, switches_seen, turn_seen, upper_seen}
+use Rattle.id_build.proofs.EndsLemmas.{HeadOf, body_region, end_is, of_arm, of_loop, of_procedure, of_side, not_last}
+use Rattle.id_build.proofs.EndsLemmas.{region_of}
+use Rattle.id_build.proofs.LoopsLemmas.{bounds_there, carried_index, carried_is, carried_nodes, entries_node}
+use Rattle.id_build.proofs.LoopsLemmas.{entries_stand, entries_within, index_carried}
+use Rattle.id_build.proofs.LoopsLemmas.{next_is, reset_is, start_head, switches_high, switches_low, turn_block, turn_is}
+use Rattle.id_build.proofs.LoopsLemmas.{turn_nodes}
+use Rattle.id_build.proofs.ImportsLemmas.{first_seen, loop_seen, name_seen, split_seen, switches_seen, turn_seen}
+use Rattle.id_build.proofs.ImportsLemmas.{upper_seen}
 use Rattle.id_build.proofs.OrderLemmas.{IsOrder, IsOrder-order_of}
 use Rattle.id_build.proofs.RowLemmas.{AllSeen, Gives, Heads, HasEntries, IsBuildable, IsEntered, IsOrigin, IsPart}
 use Rattle.id_build.proofs.RowLemmas.{IsSeen, IsTurned, IsValue, Suits, SuitsBounds, SuitsCarried, for_each-at}
@@ -47,10 +55,16 @@ value_is (Block b) e f = cc
 value_is _ e f = absurd (false≢true e)
 
 -- an expression that stands in a region is a part there
-part : (P : Checked) (r : Region) (a : ℕ) → a < length (rows P) → is_expression (node P a) ≡ true → region P a ≡ r → IsPart P r a
+part : (P : Checked) (r : Region) (a : ℕ) → a < length (rows P) → is_expression (node P a) ≡ true → region P a ≡ r
+    → IsPart P r a
 part P r a l e i =
     let v = (table_of P).value_stands a l e in
-    record { within = omega (arith, v.0, l); value = value_is (node P (at (rows P) a).value) v.1 v.2; region_of = v.3 ∙ i }
+    record {
+      within = omega (arith, v.0, l);
+      value = value_is (node P (at (rows P) a).value) v.1 v.2;
+      region_of =
+          v.3 ∙ i;
+    }
 
 -- an operand stands before its row
 before : (P : Checked) (n a : ℕ) (x : Node) → n < length (rows P) → node P n ≡ x → HasOperand x a → a < length (rows P)
@@ -59,7 +73,8 @@ before P n a x l e h =
     omega (arith, low.1, l)
 
 -- an operand that stands where its row does is a part there
-operand : (P : Checked) (n a : ℕ) (x : Node) → n < length (rows P) → node P n ≡ x → HasOperand x a → HasNear x a → IsPart P (region P n) a
+operand : (P : Checked) (n a : ℕ) (x : Node) → n < length (rows P) → node P n ≡ x → HasOperand x a → HasNear x a
+    → IsPart P (region P n) a
 operand P n a x l e h near =
     part P (region P n) a (before P n a x l e h) ((table_of P).operand_is n a l (subst (λ z. HasOperand z a) (sym e) h))
     ((table_of P).part_stands n a l (subst (λ z. HasNear z a) (sym e) near)).1
@@ -115,26 +130,34 @@ first_gives P m e (Fetch a b) h = record { piece = _; at = refl; gives = λ _. r
 first_gives P m e (Address a b) h = record { piece = _; at = refl; gives = λ _. refl }
 first_gives P m e _ h = absurd h
 
-first_origin : (P : Checked) (m : ℕ) (n : Node) → m < length (rows P) → node P m ≡ n → FirstSends n → IsOrigin P (output m)
+first_origin : (P : Checked) (m : ℕ) (n : Node) → m < length (rows P) → node P m ≡ n → FirstSends n
+    → IsOrigin P (output m)
 first_origin P m n l e h =
-    record { within = l; gives = subst (λ x. Gives (made_of P m (place P m) x) 0 true) (sym e) (first_gives P m (place P m) n h) }
+    record {
+      within = l;
+      gives =
+          subst (λ x. Gives (made_of P m (place P m) x) 0 true) (sym e) (first_gives P m (place P m) n h);
+    }
 
 -- the loop whose entries stand at a row
 pub entries_head : (P : Checked) (n : ℕ) → n < length (rows P) → node P n ≡ Entries →
     (block P n < length (rows P)) × (node P (block P n) ≡ LoopHead (block P n - 1))
 entries_head P n l e =
     let c = (table_of P).entries_of n l e in
-    let x = (table_of P).loop_is c.0 (block P n) c.1 in
-    (let low = switches_low x in let high = switches_high x in omega (arith, low, high, (c.1).within), x.before_test.head)
+    let x = (table_of P).loop_is c.0 (block P n) c.1 in (
+      let low = switches_low x in let high = switches_high x in omega (arith, low, high, (c.1).within),
+      x.before_test.head,
+    )
 
 -- a part of a row that sends is an origin
-part_origin_at : (P : Checked) (m k : ℕ) (n : Node) → m < length (rows P) → node P m ≡ n → Gives (made_of P m (place P m) n) k true
-    → IsOrigin P (part_of m k)
-part_origin_at P m k n l e g = record { within = l; gives = subst (λ x. Gives (made_of P m (place P m) x) k true) (sym e) g }
+part_origin_at : (P : Checked) (m k : ℕ) (n : Node) → m < length (rows P) → node P m ≡ n
+    → Gives (made_of P m (place P m) n) k true → IsOrigin P (part_of m k)
+part_origin_at P m k n l e g =
+    record { within = l; gives = subst (λ x. Gives (made_of P m (place P m) x) k true) (sym e) g }
 
 -- each part of what hands on is an origin
-turn_origin : (P : Checked) (h s k : ℕ) → h < length (rows P) → node P h ≡ LoopHead s → k < length (carried P h ++ imports_of P h)
-    → IsOrigin P (part_of (turn_row P h) (1 + k))
+turn_origin : (P : Checked) (h s k : ℕ) → h < length (rows P) → node P h ≡ LoopHead s
+    → k < length (carried P h ++ imports_of P h) → IsOrigin P (part_of (turn_row P h) (1 + k))
 turn_origin P h s k l e less =
     let m = turn_row P h in
     let b = turn_block P h s l e in
@@ -151,7 +174,8 @@ import_origin : (P : Checked) (h s k : ℕ) → h < length (rows P) → node P h
 import_origin P h s k l e less =
     let up : 1 + (length (carried P h) + k) ≡ 1 + length (carried P h) + k = omega arith in
     subst (λ j. IsOrigin P (part_of (turn_row P h) j)) up
-    (turn_origin P h s (length (carried P h) + k) l e (omega (arith, less, length-append (carried P h) (imports_of P h))))
+    (turn_origin P h s (length (carried P h) + k) l e
+    (omega (arith, less, length-append (carried P h) (imports_of P h))))
 
 -- the row of a loop's block is no head of one where it is none
 module _ (P : Checked) (n h : ℕ) (c : IsLoopOf (rows P) n h) where
@@ -170,10 +194,13 @@ module _ (P : Checked) (n h : ℕ) (c : IsLoopOf (rows P) n h) where
     count_row = let z = turn_nodes the_rows.body_is.turns three in (z.1, sym z.0)
 
     carried_at : (i : ℕ) → h < i → i ≤ h + 3 → (block P i ≡ h) × (region P i ≡ top h)
-    carried_at i low high = the_rows.before_test.stands i (omega (arith, low)) (omega (arith, high, the_rows.before_test.low, three))
+    carried_at i low high =
+        the_rows.before_test.stands i (omega (arith, low)) (omega (arith, high, the_rows.before_test.low, three))
 
     carried_in : (i : ℕ) → i ≤ h + 3 → i < length (rows P)
-    carried_in i high = let low = switches_low the_rows in let end = switches_high the_rows in omega (arith, high, low, end, three, c.within)
+    carried_in i high =
+        let low =
+        switches_low the_rows in let end = switches_high the_rows in omega (arith, high, low, end, three, c.within)
 
     begin_region : (i : ℕ) → c.switches < i → i ≤ c.switches + 2 → region P i ≡ arm_at c.switches true
     begin_region i low high = (the_rows.body_is.begins i low (omega (arith, high, count_row.1))).1
@@ -200,7 +227,8 @@ test_part P w t l e = go (is_within (node P t)) refl
     near = ((table_of P).part_stands w t l (subst (λ z. HasNear z t) (sym e) refl)).1
 
     inside : t < length (rows P)
-    inside = let low = ((table_of P).formed.each w l).parts t (subst (λ z. HasPart z t) (sym e) refl) in omega (arith, low.1, l)
+    inside = let low =
+        ((table_of P).formed.each w l).parts t (subst (λ z. HasPart z t) (sym e) refl) in omega (arith, low.1, l)
 
     within_is : (m : Node) → is_within m ≡ true → (f : ℕ) × (m ≡ Within f)
     within_is (Within f) k = (f, refl)
@@ -225,7 +253,9 @@ test_part P w t l e = go (is_within (node P t)) refl
         record {
           within = omega (arith, value, carried_in P z.0 h z.1 z.2 (h + 3) (omega arith));
           value = subst IsValue (sym (ap (node P) value ∙ c.2)) tt;
-          region_of = ap (region P) value ∙ (carried_at P z.0 h z.1 z.2 (h + 3) (omega arith) (omega arith)).1 ∙ sym switches_here;
+          region_of =
+              ap (region P) value ∙ (carried_at P z.0 h z.1 z.2 (h + 3) (omega arith) (omega arith)).1
+              ∙ sym switches_here;
         }
       where
         at_rows : ℕ → Row
@@ -236,7 +266,8 @@ test_part P w t l e = go (is_within (node P t)) refl
     go true k = let z = within_is (node P t) k in by_flag z.0 z.1
 
 -- the region of a loop's `Start` sees what enters the loop
-entering_seen : (P : Checked) (n : ℕ) → n < length (rows P) → node P n ≡ Start → AllSeen P (region P n) (entering P (n + 1))
+entering_seen : (P : Checked) (n : ℕ) → n < length (rows P) → node P n ≡ Start
+    → AllSeen P (region P n) (entering P (n + 1))
 entering_seen P n l e b h =
     let z = start_head P n l e in
     elim (Among-either b (map (first_binder P) (nexts_of P (n + 1))) (imports_of P (n + 1)) h) [
@@ -247,7 +278,8 @@ entering_seen P n l e b h =
     ]
 
 -- what feeds the sends of what a loop carries on comes from its bounds
-bounds_suit : (P : Checked) (n : ℕ) → n < length (rows P) → node P n ≡ Start → SuitsBounds P n (region P n) (node P (n - 1))
+bounds_suit : (P : Checked) (n : ℕ) → n < length (rows P) → node P n ≡ Start
+    → SuitsBounds P n (region P n) (node P (n - 1))
 bounds_suit P n l e = go (node P (n - 1)) refl
   where
     some : (a b : ℕ) → node P (n - 1) ≡ Bounds a b → (n - 1) + 2 ≡ n + 1
@@ -260,7 +292,8 @@ bounds_suit P n l e = go (node P (n - 1)) refl
     ]
 
     by_bounds : (a b : ℕ) → node P (n - 1) ≡ Bounds a b
-        → (has_index P (n + 1) ≡ true) × IsOrigin P (part_of (n - 1) 1) × IsPart P (region P n) b × IsOrigin P (output (n - 1))
+        → (has_index P (n + 1) ≡ true) × IsOrigin P (part_of (n - 1) 1) × IsPart P (region P n) b
+        × IsOrigin P (output (n - 1))
     by_bounds a b f =
         let m = n - 1 in
         let low : m < length (rows P) = omega (arith, l) in
@@ -284,13 +317,15 @@ bounds_suit P n l e = go (node P (n - 1)) refl
     go _ f = tt
 
 -- the entry of what a loop carries on is fed by what hands it on
-carried_suit : (P : Checked) (n : ℕ) {k : Kind} → n < length (rows P) → node P n ≡ Carried k → IsOrigin P (part_of (turn_row P (block P n)) (n - block P n))
+carried_suit : (P : Checked) (n : ℕ) {k : Kind} → n < length (rows P) → node P n ≡ Carried k
+    → IsOrigin P (part_of (turn_row P (block P n)) (n - block P n))
 carried_suit P n {k} l e =
     let z = (table_of P).carried_of n l (ap is_carried e) in
     let h = block P n in
     let y = the_rows P z.0 h z.1 in
     let head = y.before_test.head in
-    let inner = (table_of P).block n (not_last P (table_of P) n l (λ f. (let bad : Carried k ≡ Program = sym e ∙ f in cc))) in
+    let inner =
+    (table_of P).block n (not_last P (table_of P) n l (λ f. (let bad : Carried k ≡ Program = sym e ∙ f in cc))) in
     let behind : h < n = elim (cases_eq h n) [
       | inl same ↦ (let bad : LoopHead (h - 1) ≡ Carried k = sym head ∙ ap (node P) same ∙ e in cc)
       | inr other ↦ omega (arith, other, inner.0)
@@ -301,7 +336,8 @@ carried_suit P n {k} l e =
     (omega (arith, z.3, behind, many_are P z.0 h z.1 z.2, length-append (carried P h) (imports_of P h))))
 
 -- the block of what a loop carries on begins a few rows before, and that of what hands on at a row
-pub carried_head : (P : Checked) (n : ℕ) {k : Kind} → n < length (rows P) → node P n ≡ Carried k → (block P n < length (rows P)) × (n ≤ block P n + 3)
+pub carried_head : (P : Checked) (n : ℕ) {k : Kind} → n < length (rows P) → node P n ≡ Carried k
+    → (block P n < length (rows P)) × (n ≤ block P n + 3)
 carried_head P n l e = let z = (table_of P).carried_of n l (ap is_carried e) in (head_in P z.0 (block P n) z.1, z.3)
 
 pub turn_head : (P : Checked) (n : ℕ) → n < length (rows P) → node P n ≡ Turn → block P n < length (rows P)
@@ -353,7 +389,10 @@ suits : (P : Checked) (n : ℕ) (x : Node) → n < length (rows P) → node P n 
 suits P n Head l e = def_part P (end_of P n) n (end_is P (table_of P) n l e)
 suits P n (Literal v) l e = turned P n l (λ f. (let bad : Literal v ≡ Program = sym e ∙ f in cc))
 suits P n (UnaryNode o a) l e = operand P n a (UnaryNode o a) l e refl refl
-suits P n (BinaryNode o a b) l e = (operand P n a (BinaryNode o a b) l e (inl refl) (inl refl), operand P n b (BinaryNode o a b) l e (inr refl) (inr refl))
+suits P n (BinaryNode o a b) l e = (
+  operand P n a (BinaryNode o a b) l e (inl refl) (inl refl),
+  operand P n b (BinaryNode o a b) l e (inr refl) (inr refl),
+)
 suits P n (Split t) l e = (
   operand P n t (Split t) l e refl refl,
   turned P n l (λ f. (let bad : Split t ≡ Program = sym e ∙ f in cc)),
@@ -392,7 +431,8 @@ suits P n (LoopHead s) l e =
       first_origin P (end_of P n - 2) (Reset _) r.0 r.1 tt,
     )
 suits P n Variable l e = let z = next_is P n l e in first_origin P (next_of P n) (Next _ _ _ _) z.within z.node tt
-suits P n Entries l e = λ k less. (let z = entries_head P n l e in import_origin P (block P n) (block P n - 1) k z.0 z.1 less)
+suits P n Entries l e =
+    λ k less. (let z = entries_head P n l e in import_origin P (block P n) (block P n - 1) k z.0 z.1 less)
 suits P n (Switches t) l e = (
   test_part P n t l e,
   turned P n l (λ f. (let bad : Switches t ≡ Program = sym e ∙ f in cc)),
@@ -405,13 +445,17 @@ suits P n Turn l e = (
 )
 suits P n (Next x k o v) l e = operand P n v (Next x k o v) l e refl (inr refl)
 suits P n (Reset v) l e = operand P n v (Reset v) l e refl refl
-suits P n (Array nested a b) l e = (operand P n a (Array nested a b) l e (inl refl) (inl refl), operand P n b (Array nested a b) l e (inr refl) (inr refl))
+suits P n (Array nested a b) l e = (
+  operand P n a (Array nested a b) l e (inl refl) (inl refl),
+  operand P n b (Array nested a b) l e (inr refl) (inr refl),
+)
 suits P n (Fetch a b) l e = (
   operand P n a (Fetch a b) l e (inl refl) (inl refl),
   operand P n b (Fetch a b) l e (inr refl) (inr refl),
   first_origin P n (Fetch a b) l e tt,
 )
-suits P n (Address a b) l e = (operand P n a (Address a b) l e (inl refl) (inl refl), operand P n b (Address a b) l e (inr refl) (inr refl))
+suits P n (Address a b) l e =
+    (operand P n a (Address a b) l e (inl refl) (inl refl), operand P n b (Address a b) l e (inr refl) (inr refl))
 suits P n (Store a v) l e = (address_origin P n a v l e, operand P n v (Store a v) l e refl (inr refl))
 suits P n _ l e = tt
 
@@ -424,7 +468,8 @@ entered P h s l e =
 
 -- a checked program is one that a graph can be built of
 pub IsBuildable-checked : (P : Checked) → IsBuildable P
-IsBuildable-checked P = record { suits = λ n l. suits P n (node P n) l refl; named = λ v x l e. name_seen P v x l e; entered = entered P }
+IsBuildable-checked P =
+    record { suits = λ n l. suits P n (node P n) l refl; named = λ v x l e. name_seen P v x l e; entered = entered P }
 
 -- the order of its rows, however it is written
 pub is_order : (P : Checked) (order : List ℕ) → order ≡ order_of P → IsOrder P order

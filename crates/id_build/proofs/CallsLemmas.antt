@@ -9,7 +9,8 @@ use Rattle.id_check.proofs.ProgramsLemmas.{table_of}
 use Rattle.id_build.specs.Rows.{node, param_at}
 
 -- what an argument names as its `Enter` is one
-pub enter_of_arg : (P : Checked) (m e k v : ℕ) → m < length (rows P) → node P m ≡ Arg e k v → (x : ℕ) × (node P e ≡ Enter x)
+pub enter_of_arg : (P : Checked) (m e k v : ℕ) → m < length (rows P) → node P m ≡ Arg e k v
+    → (x : ℕ) × (node P e ≡ Enter x)
 enter_of_arg P m e k v within is =
     let a = (table_of P).arg_of m e k (record { value = v; within = within; node = is }) in
     let z = (table_of P).enter_of a.row e a.call in

@@ -1,5 +1,6 @@
 -- Where what begins at a head or at the switches of a conditional ends, and what the head of a region is.
-use Rattle.std.proofs.Common.{◌≡◌, inl, inr, ℕ, zero, suc, ◌+◌, ◌-◌, ◌<◌, Bool as Truth, true, false, cond, nat_eq, Option, Some, None, length, refl}
+use Rattle.std.proofs.Common.{◌≡◌, inl, inr, ℕ, zero, suc, ◌+◌, ◌-◌, ◌<◌, Bool as Truth, true, false, cond, nat_eq}
+use Rattle.std.proofs.Common.{Option, Some, None, length, refl}
 use Rattle.std.proofs.Common.{sym, ◌∙◌, ap, subst, arith, List}
 use Rattle.std.specs.Option.{option_or}
 use Rattle.std.specs.Prelude.{unwrap_or}
@@ -7,7 +8,8 @@ use Rattle.std.proofs.lemmas.Bool.{cases_eq, eqb-true, false≢true}
 use Rattle.std.proofs.lemmas.Bool.Decides.{nat_tests}
 use Rattle.id_table.specs.declared.row.Region.{Region}
 use Rattle.id_table.specs.declared.row.Node.{Node}
-use Rattle.id_table.specs.declared.row.Node.TheVariants.{Head, Split, If, Enter, Call, Def, Program, LoopHead, Switches, Loop}
+use Rattle.id_table.specs.declared.row.Node.TheVariants.{Head, Split, If, Enter, Call, Def, Program, LoopHead, Switches}
+use Rattle.id_table.specs.declared.row.Node.TheVariants.{Loop}
 use Rattle.id_table.specs.Rows.{at, top}
 use Rattle.id_table.specs.Tables.{HasPart, begins_block}
 use Rattle.id_table.specs.Calls.{IsCallOf}
@@ -41,7 +43,8 @@ pub first_answers : (f : ℕ → Option ℕ) (n k : ℕ) → first_of f n ≡ So
 first_answers f zero k e = cc
 first_answers f (suc n) k e = go (first_of f n) refl e (first_answers f n k)
   where
-    go : (o : Option ℕ) → first_of f n ≡ o → option_or o (f n) ≡ Some k → (first_of f n ≡ Some k → (m : ℕ) × (m < n) × (f m ≡ Some k))
+    go : (o : Option ℕ) → first_of f n ≡ o → option_or o (f n) ≡ Some k
+        → (first_of f n ≡ Some k → (m : ℕ) × (m < n) × (f m ≡ Some k))
         → (m : ℕ) × (m < suc n) × (f m ≡ Some k)
     go None is h rest = (n, omega arith, h)
     go (Some x) is h rest = let t = rest (is ∙ h) in (t.0, omega (arith, t.1), t.2)
@@ -54,7 +57,8 @@ pub some_answer : (f : ℕ → Option ℕ) (n m k : ℕ) → m < n → f m ≡ S
 some_answer f zero m k less e = absurd (omega (arith, less))
 some_answer f (suc n) m k less e = go (first_of f n) refl (some_answer f n m k)
   where
-    go : (o : Option ℕ) → first_of f n ≡ o → (m < n → f m ≡ Some k → (x : ℕ) × (first_of f n ≡ Some x)) → (x : ℕ) × (option_or o (f n) ≡ Some x)
+    go : (o : Option ℕ) → first_of f n ≡ o → (m < n → f m ≡ Some k → (x : ℕ) × (first_of f n ≡ Some x))
+        → (x : ℕ) × (option_or o (f n) ≡ Some x)
     go (Some x) is rest = (x, refl)
     go None is rest =
         elim (cases_eq m n) [
@@ -71,7 +75,8 @@ itself_eq n = grind (arith, nat_tests)
 
 module _ (P : Checked) (table : IsTable (rows P)) where
   -- what begins at the row h ends at a row, if it ends at some
-  end_there : (h n : ℕ) → n < length (rows P) → ends_what h (node P n) ≡ true → (end_of P h < length (rows P)) × (ends_what h (node P (end_of P h)) ≡ true)
+  end_there : (h n : ℕ) → n < length (rows P) → ends_what h (node P n) ≡ true
+      → (end_of P h < length (rows P)) × (ends_what h (node P (end_of P h)) ≡ true)
   end_there h n within is =
       let f : ℕ → Option ℕ = λ m. cond (ends_what h (node P m)) (Some m) None in
       let here : f n ≡ Some n = ap (λ b. cond b (Some n) None) is in
@@ -90,7 +95,8 @@ module _ (P : Checked) (table : IsTable (rows P)) where
 
   -- nor is the head of a loop
   loop_head : (n h w l : ℕ) → n < length (rows P) → node P n ≡ Loop h w l → node P h ≡ LoopHead (h - 1)
-  loop_head n h w l within is = (table.loop_is n h (record { switches = w; last = l; within = within; node = is })).before_test.head
+  loop_head n h w l within is =
+      (table.loop_is n h (record { switches = w; last = l; within = within; node = is })).before_test.head
 
   -- the row where a head's definition ends is the definition
   pub end_is : (h : ℕ) → h < length (rows P) → node P h ≡ Head → IsDefOf (rows P) (end_of P h) h
@@ -100,7 +106,8 @@ module _ (P : Checked) (table : IsTable (rows P)) where
       by_node (end_of P h) end.0 (node P (end_of P h)) refl end.1
     where
       by_node : (n : ℕ) → n < length (rows P) → (m : Node) → node P n ≡ m → ends_what h m ≡ true → IsDefOf (rows P) n h
-      by_node n less (Def x g k b) m e = record { name = x; result = k; body = b; within = less; node = m ∙ ap (λ z. Def x z k b) (eqb-true g h e) }
+      by_node n less (Def x g k b) m e =
+          record { name = x; result = k; body = b; within = less; node = m ∙ ap (λ z. Def x z k b) (eqb-true g h e) }
       by_node n less (If s x y) m e = absurd (split_no_head n s x y less m (ap (node P) (eqb-true s h e) ∙ is))
       by_node n less (Call g c) m e =
           let z = table.enter_of n g (record { count = c; within = less; node = m }) in
@@ -119,7 +126,8 @@ module _ (P : Checked) (table : IsTable (rows P)) where
       by_node (end_of P s) end.0 (node P (end_of P s)) refl end.1
     where
       by_node : (n : ℕ) → n < length (rows P) → (m : Node) → node P n ≡ m → ends_what s m ≡ true → IsIfOf (rows P) n s
-      by_node n less (If g x y) m e = record { then = x; otherwise = y; within = less; node = m ∙ ap (λ z. If z x y) (eqb-true g s e) }
+      by_node n less (If g x y) m e =
+          record { then = x; otherwise = y; within = less; node = m ∙ ap (λ z. If z x y) (eqb-true g s e) }
       by_node n less (Def x g k b) m e =
           let heads = table.head_is n x g b k less m in
           let bad : Head ≡ Split t = sym heads.0 ∙ ap (node P) (eqb-true g s e) ∙ is in
@@ -129,7 +137,8 @@ module _ (P : Checked) (table : IsTable (rows P)) where
           let bad : Split t ≡ Enter z.name = sym is ∙ ap (node P) (sym (eqb-true g s e)) ∙ z.node in
           cc
       by_node n less (Loop g w l) m e =
-          let bad : Split t ≡ LoopHead (g - 1) = sym is ∙ ap (node P) (sym (eqb-true g s e)) ∙ loop_head n g w l less m in
+          let bad : Split t ≡ LoopHead (g - 1) =
+          sym is ∙ ap (node P) (sym (eqb-true g s e)) ∙ loop_head n g w l less m in
           cc
       by_node n less _ m e = absurd (false≢true e)
 
@@ -141,7 +150,8 @@ module _ (P : Checked) (table : IsTable (rows P)) where
       by_node (end_of P s) end.0 (node P (end_of P s)) refl end.1
     where
       by_node : (n : ℕ) → n < length (rows P) → (m : Node) → node P n ≡ m → ends_what s m ≡ true → IsCallOf (rows P) n s
-      by_node n less (Call g c) m e = record { count = c; within = less; node = m ∙ ap (λ z. Call z c) (eqb-true g s e) }
+      by_node n less (Call g c) m e =
+          record { count = c; within = less; node = m ∙ ap (λ z. Call z c) (eqb-true g s e) }
       by_node n less (Def y g k b) m e =
           let heads = table.head_is n y g b k less m in
           let bad : Head ≡ Enter x = sym heads.0 ∙ ap (node P) (eqb-true g s e) ∙ is in
@@ -151,7 +161,8 @@ module _ (P : Checked) (table : IsTable (rows P)) where
           let bad : Enter x ≡ Split split.test = sym is ∙ ap (node P) (sym (eqb-true g s e)) ∙ split.node in
           cc
       by_node n less (Loop g w l) m e =
-          let bad : Enter x ≡ LoopHead (g - 1) = sym is ∙ ap (node P) (sym (eqb-true g s e)) ∙ loop_head n g w l less m in
+          let bad : Enter x ≡ LoopHead (g - 1) =
+          sym is ∙ ap (node P) (sym (eqb-true g s e)) ∙ loop_head n g w l less m in
           cc
       by_node n less _ m e = absurd (false≢true e)
 
@@ -230,7 +241,8 @@ module _ (P : Checked) (table : IsTable (rows P)) where
             let head : (region P n).head ≡ (at (rows P) n).block = ap (λ (r : Region). r.head) is in
             record {
               below = omega (arith, within, stands.0, head);
-              head = block_head (region P n) (node P (region P n).head) refl (ap (λ k. begins_block (node P k)) head ∙ stands.1)
+              head = block_head (region P n) (node P (region P n).head) refl (ap (λ k. begins_block (node P k)) head
+                  ∙ stands.1)
                   (is ∙ ap top (sym head));
             }
         | inr (inl arm) ↦ in_arm arm
@@ -256,5 +268,6 @@ module _ (P : Checked) (table : IsTable (rows P)) where
   -- the body of a definition stands right in the region that its head turns on
   pub body_region : (n h : ℕ) (d : IsDefOf (rows P) n h) → (d.body < length (rows P)) × (region P d.body ≡ top h)
   body_region n h d =
-      let less = ((table.formed).each n d.within).parts d.body (subst (λ m. HasPart m d.body) (sym d.node) (inr refl)) in
+      let less =
+      ((table.formed).each n d.within).parts d.body (subst (λ m. HasPart m d.body) (sym d.node) (inr refl)) in
       (omega (arith, d.within, less.1), Root-stands (rows P) table (top h) d.body (roots.of_procedure d.within d.node))

@@ -47,26 +47,38 @@ label_home (Carried k) r s h = refl
 label_home _ r s h = absurd (false≢true h)
 
 -- the switch of each import sends on both sides
-switch_gives : (P : Checked) (e : ℕ) (side : Bool) (p : Piece) (bs : List ℕ) (k : ℕ) → k < length bs → Gives (p ∷ switches P e bs) (suc k) side
-switch_gives P e side p bs k l = let z = for_each-at P Switch e bs k l in record { piece = _; at = z.1; gives = λ _. tt }
+switch_gives : (P : Checked) (e : ℕ) (side : Bool) (p : Piece) (bs : List ℕ) (k : ℕ) → k < length bs
+    → Gives (p ∷ switches P e bs) (suc k) side
+switch_gives P e side p bs k l =
+    let z = for_each-at P Switch e bs k l in record { piece = _; at = z.1; gives = λ _. tt }
 
-switches_give : (P : Checked) (n t k : ℕ) (c : Bool) → HasSwitches P n t → k < length (imports_of P n) → Gives (made P n) (suc k) c
+switches_give : (P : Checked) (n t k : ℕ) (c : Bool) → HasSwitches P n t → k < length (imports_of P n)
+    → Gives (made P n) (suc k) c
 switches_give P n t k c (of_arms is) l =
-    subst (λ x. Gives (made_of P n (place P n) x) (suc k) c) (sym is) (switch_gives P (place P n) c _ (imports_of P n) k l)
+    subst (λ x. Gives (made_of P n (place P n) x) (suc k) c) (sym is)
+    (switch_gives P (place P n) c _ (imports_of P n) k l)
 switches_give P n t k c (of_turns is) l =
-    subst (λ x. Gives (made_of P n (place P n) x) (suc k) c) (sym is) (switch_gives P (place P n) c _ (imports_of P n) k l)
+    subst (λ x. Gives (made_of P n (place P n) x) (suc k) c) (sym is)
+    (switch_gives P (place P n) c _ (imports_of P n) k l)
 
-switches_home : (P : Checked) (n t k : ℕ) (c : Bool) → HasSwitches P n t → home P (record { row = n; part = suc k; side = c }) ≡ arm_at n c
+switches_home : (P : Checked) (n t k : ℕ) (c : Bool) → HasSwitches P n t
+    → home P (record { row = n; part = suc k; side = c }) ≡ arm_at n c
 switches_home P n t k c (of_arms is) = ap (λ x. home_of x (region P n) (record { row = n; part = suc k; side = c })) is
 switches_home P n t k c (of_turns is) = ap (λ x. home_of x (region P n) (record { row = n; part = suc k; side = c })) is
 
 -- the merge of each import sends
-entry_gives : (P : Checked) (h k : ℕ) → HasEntries P h → k < length (imports_of P h) → Gives (made P (entries_row P h)) k true
+entry_gives : (P : Checked) (h k : ℕ) → HasEntries P h → k < length (imports_of P h)
+    → Gives (made P (entries_row P h)) k true
 entry_gives P h k e l =
     let n = entries_row P h in
     let less = subst (λ g. k < length (imports_of P g)) (sym e.block) l in
     let z = for_each-at P Merge (place P n) (imports_of P (block P n)) k less in
-    subst (λ x. Gives (made_of P n (place P n) x) k true) (sym e.node) (record { piece = _; at = z.1; gives = λ _. refl })
+    subst (λ x. Gives (made_of P n (place P n) x) k true) (sym e.node) (record {
+      piece = _;
+      at = z.1;
+      gives =
+          λ _. refl;
+    })
 
 -- where the value of a name comes from in a region that sees its binder
 pub named_origin : (P : Checked) (r : Region) (b : ℕ) → IsBuildable P → IsSeen P r b → IsOriginOf P r (name_in P r b)
@@ -93,16 +105,22 @@ named_origin P r b t h = by (comes P r b h.sees)
         let o : Origin = record { row = entries_row P h; part = k; side = true } in
         subst Z (sym is) (record {
           is_origin = record { within = e.within; gives = entry_gives P h k e less };
-          side = ap (λ (z : Region). z.side) (ap (λ x. home_of x (region P (entries_row P h)) o) e.node ∙ e.region ∙ sym right);
+          side = ap (λ (z : Region). z.side) (ap (λ x. home_of x (region P (entries_row P h)) o) e.node ∙ e.region
+              ∙ sym right);
         })
 
 -- a row of another node than a split's belongs where it stands
-own : (P : Checked) (v : ℕ) (n : Node) → v < length (rows P) → node P v ≡ n → home_of n (region P v) (output v) ≡ region P v →
+own : (P : Checked) (v : ℕ) (n : Node) → v < length (rows P) → node P v ≡ n
+    → home_of n (region P v) (output v) ≡ region P v →
     Gives (made_of P v (place P v) n) 0 true
     → IsOriginOf P (region P v) (output v)
 own P v n l e h g =
     let G : Node → Type 0 = λ x. Gives (made_of P v (place P v) x) 0 true in
-    record { is_origin = record { within = l; gives = subst G (sym e) g }; side = ap (λ (z : Region). z.side) (ap (λ x. home_of x (region P v) (output v)) e ∙ h) }
+    record {
+      is_origin = record { within = l; gives = subst G (sym e) g };
+      side =
+          ap (λ (z : Region). z.side) (ap (λ x. home_of x (region P v) (output v)) e ∙ h);
+    }
 
 value_origin : (P : Checked) (v : ℕ) (n : Node) → IsBuildable P → v < length (rows P) → node P v ≡ n → IsValue n →
     IsOriginOf P (region P v) (origin_of P v (region P v) n)
@@ -111,13 +129,17 @@ value_origin P v (Name x) t l e h =
     let Z : Origin → Type 0 = IsOriginOf P (region P v) in
     subst Z (sym (ap (named_in P (region P v) v) named.binds)) (named_origin P (region P v) named.row t named.seen)
 value_origin P v (Literal c) t l e h = own P v (Literal c) l e refl (record { piece = _; at = refl; gives = λ _. refl })
-value_origin P v (UnaryNode o a) t l e h = own P v (UnaryNode o a) l e refl (record { piece = _; at = refl; gives = λ _. refl })
-value_origin P v (BinaryNode o a b) t l e h = own P v (BinaryNode o a b) l e refl (record { piece = _; at = refl; gives = λ _. refl })
+value_origin P v (UnaryNode o a) t l e h =
+    own P v (UnaryNode o a) l e refl (record { piece = _; at = refl; gives = λ _. refl })
+value_origin P v (BinaryNode o a b) t l e h =
+    own P v (BinaryNode o a b) l e refl (record { piece = _; at = refl; gives = λ _. refl })
 value_origin P v (If s x y) t l e h = own P v (If s x y) l e refl (record { piece = _; at = refl; gives = λ _. refl })
 value_origin P v (Call s c) t l e h = own P v (Call s c) l e refl (record { piece = _; at = refl; gives = λ _. refl })
 value_origin P v (Carried k) t l e h = own P v (Carried k) l e refl (record { piece = _; at = refl; gives = λ _. refl })
-value_origin P v (Loop g w x) t l e h = own P v (Loop g w x) l e refl (record { piece = _; at = refl; gives = λ _. refl })
-value_origin P v (Array nested a b) t l e h = own P v (Array nested a b) l e refl (record { piece = _; at = refl; gives = λ _. refl })
+value_origin P v (Loop g w x) t l e h =
+    own P v (Loop g w x) l e refl (record { piece = _; at = refl; gives = λ _. refl })
+value_origin P v (Array nested a b) t l e h =
+    own P v (Array nested a b) l e refl (record { piece = _; at = refl; gives = λ _. refl })
 value_origin P v (Fetch a b) t l e h =
     let G : Node → Type 0 = λ x. Gives (made_of P v (place P v) x) 2 true in
     record {
@@ -142,7 +164,8 @@ head_gives P m e _ b h = absurd h
 
 -- what turns a region on is the side of an instruction
 pub trigger_origin : (P : Checked) (r : Region) → IsTurned P r → IsOrigin P (trigger_of r)
-trigger_origin P r h = record { within = h.within; gives = head_gives P r.head (place P r.head) (node P r.head) r.side h.heads }
+trigger_origin P r h =
+    record { within = h.within; gives = head_gives P r.head (place P r.head) (node P r.head) r.side h.heads }
 
 enter_gives : (P : Checked) (m e : ℕ) (n : Node) → is_enter n ≡ true → Gives (made_of P m e n) 0 true
 enter_gives P m e (Enter x) h = record { piece = _; at = refl; gives = λ _. refl }
@@ -153,17 +176,20 @@ pub context_origin : (P : Checked) (e : ℕ) → IsEntered P e → IsOrigin P (o
 context_origin P e h = record { within = h.within; gives = enter_gives P e (place P e) (node P e) h.is_enter }
 
 -- a feed has the origin that it is made with
-from_only : (P : Checked) (s : Origin) (k : ℕ) (p : Port) (f : Feed) → IsOrigin P s → f ≡ feed s k p → IsOrigin P f.origin
+from_only : (P : Checked) (s : Origin) (k : ℕ) (p : Port) (f : Feed) → IsOrigin P s → f ≡ feed s k p
+    → IsOrigin P f.origin
 from_only P s k p f g i = let Z : Origin → Type 0 = IsOrigin P in subst Z (sym (ap (λ x. x.origin) i)) g
 
-imports_come : (P : Checked) (s : Origin) (r : Region) (k : ℕ) (bs : List ℕ) (f : Feed) → IsBuildable P → IsOrigin P s → AllSeen P r bs
-    → Among f (import_feeds P s r k bs) → IsOrigin P f.origin
+imports_come : (P : Checked) (s : Origin) (r : Region) (k : ℕ) (bs : List ℕ) (f : Feed) → IsBuildable P → IsOrigin P s
+    → AllSeen P r bs → Among f (import_feeds P s r k bs) → IsOrigin P f.origin
 imports_come P s r k [] f t g a h = absurd h
 imports_come P s r k (b ∷ bs) f t g a (inl i) = from_only P s k Zero f g i
-imports_come P s r k (b ∷ bs) f t g a (inr (inl i)) = from_only P (name_in P r b) k One f (named_origin P r b t (a b (inl refl))).is_origin i
+imports_come P s r k (b ∷ bs) f t g a (inr (inl i)) =
+    from_only P (name_in P r b) k One f (named_origin P r b t (a b (inl refl))).is_origin i
 imports_come P s r k (b ∷ bs) f t g a (inr (inr h)) = imports_come P s r (k + 1) bs f t g (λ c i. a c (inr i)) h
 
-entries_come : (P : Checked) (n i k : ℕ) (bs : List ℕ) (f : Feed) → ((j : ℕ) → j < length bs → IsOrigin P (part_of n (i + j)))
+entries_come : (P : Checked) (n i k : ℕ) (bs : List ℕ) (f : Feed)
+    → ((j : ℕ) → j < length bs → IsOrigin P (part_of n (i + j)))
     → Among f (entry_feeds n i k bs) → IsOrigin P f.origin
 entries_come P n m k [] f all h = absurd h
 entries_come P n m k (b ∷ bs) f all (inl i) =
@@ -175,19 +201,20 @@ entries_come P n m k (b ∷ bs) f all (inr h) =
     let next : m + suc j ≡ m + 1 + j = omega arith in
     subst (λ z. IsOrigin P (part_of n z)) next (all (suc j) (omega (arith, l))))) h
 
-bounds_come : (P : Checked) (m : ℕ) (r : Region) (x : Node) (f : Feed) → IsBuildable P → IsOrigin P (output m) → SuitsBounds P m r x
-    → Among f (bounds_feeds P m x) → IsOrigin P f.origin
+bounds_come : (P : Checked) (m : ℕ) (r : Region) (x : Node) (f : Feed) → IsBuildable P → IsOrigin P (output m)
+    → SuitsBounds P m r x → Among f (bounds_feeds P m x) → IsOrigin P f.origin
 bounds_come P m r (Bounds a b) f t o s (inl i) = from_only P _ _ _ f o i
 bounds_come P m r (Bounds a b) f t o s (inr (inl i)) = from_only P _ _ _ f s.1 i
 bounds_come P m r (Bounds a b) f t o s (inr (inr (inl i))) = from_only P _ _ _ f o i
-bounds_come P m r (Bounds a b) f t o s (inr (inr (inr (inl i)))) = from_only P _ _ _ f (part_origin P r b t s.2).is_origin i
+bounds_come P m r (Bounds a b) f t o s (inr (inr (inr (inl i)))) =
+    from_only P _ _ _ f (part_origin P r b t s.2).is_origin i
 bounds_come P m r (Bounds a b) f t o s (inr (inr (inr (inr (inl i))))) = from_only P _ _ _ f o i
 bounds_come P m r (Bounds a b) f t o s (inr (inr (inr (inr (inr (inl i)))))) = from_only P _ _ _ f s.3 i
 bounds_come P m r (Bounds a b) f t o s (inr (inr (inr (inr (inr (inr h)))))) = absurd h
 bounds_come P m r _ f t o s h = absurd h
 
-carried_come : (P : Checked) (m : ℕ) (r : Region) (g : ℕ) (f : Feed) → IsBuildable P → SuitsCarried P m r g → Among f (carried_feeds P m r g)
-    → IsOrigin P f.origin
+carried_come : (P : Checked) (m : ℕ) (r : Region) (g : ℕ) (f : Feed) → IsBuildable P → SuitsCarried P m r g
+    → Among f (carried_feeds P m r g) → IsOrigin P f.origin
 carried_come P m r g f t s among = go (has_index P g) refl among
   where
     fs : List Feed
@@ -203,13 +230,16 @@ carried_come P m r g f t s among = go (has_index P g) refl among
     go true e h = there e h
     go false e h = absurd h
 
-turn_come : (P : Checked) (r : Region) (k : ℕ) (bs : List ℕ) (f : Feed) → IsBuildable P → AllSeen P r bs → Among f (turn_feeds P r k bs) → IsOrigin P f.origin
+turn_come : (P : Checked) (r : Region) (k : ℕ) (bs : List ℕ) (f : Feed) → IsBuildable P → AllSeen P r bs
+    → Among f (turn_feeds P r k bs) → IsOrigin P f.origin
 turn_come P r k [] f t a h = absurd h
-turn_come P r k (b ∷ bs) f t a (inl i) = from_only P (name_in P r b) k Zero f (named_origin P r b t (a b (inl refl))).is_origin i
+turn_come P r k (b ∷ bs) f t a (inl i) =
+    from_only P (name_in P r b) k Zero f (named_origin P r b t (a b (inl refl))).is_origin i
 turn_come P r k (b ∷ bs) f t a (inr h) = turn_come P r (k + 1) bs f t (λ c i. a c (inr i)) h
 
 -- each feed of a row comes from a side of an instruction
-pub feeds_come : (P : Checked) (m : ℕ) (r : Region) (n : Node) (f : Feed) → IsBuildable P → Suits P m r n → Among f (feeds_of P m r n) → IsOrigin P f.origin
+pub feeds_come : (P : Checked) (m : ℕ) (r : Region) (n : Node) (f : Feed) → IsBuildable P → Suits P m r n
+    → Among f (feeds_of P m r n) → IsOrigin P f.origin
 feeds_come P m r Head f t s (inl i) = from_only P _ _ _ f (part_origin P (top m) _ t s).is_origin i
 feeds_come P m r Head f t s (inr h) = absurd h
 feeds_come P m r (Param x k) f t s h = absurd h
@@ -223,9 +253,11 @@ feeds_come P m r (BinaryNode o a b) f t s (inr (inl i)) = from_only P _ _ _ f (p
 feeds_come P m r (BinaryNode o a b) f t s (inr (inr h)) = absurd h
 feeds_come P m r (Split c) f t s (inl i) = from_only P _ _ _ f (part_origin P r c t s.0).is_origin i
 feeds_come P m r (Split c) f t s (inr (inl i)) = from_only P _ _ _ f (trigger_origin P r s.1) i
-feeds_come P m r (Split c) f t s (inr (inr h)) = imports_come P (origin P c) r 1 (imports_of P m) f t (part_origin P r c t s.0).is_origin s.2 h
+feeds_come P m r (Split c) f t s (inr (inr h)) =
+    imports_come P (origin P c) r 1 (imports_of P m) f t (part_origin P r c t s.0).is_origin s.2 h
 feeds_come P m r (If g x y) f t s (inl i) = from_only P _ _ _ f (part_origin P (arm_at g true) x t s.0).is_origin i
-feeds_come P m r (If g x y) f t s (inr (inl i)) = from_only P _ _ _ f (part_origin P (arm_at g false) y t s.1).is_origin i
+feeds_come P m r (If g x y) f t s (inr (inl i)) =
+    from_only P _ _ _ f (part_origin P (arm_at g false) y t s.1).is_origin i
 feeds_come P m r (If g x y) f t s (inr (inr h)) = absurd h
 feeds_come P m r (Enter x) f t s (inl i) = from_only P _ _ _ f (trigger_origin P r s) i
 feeds_come P m r (Enter x) f t s (inr h) = absurd h
@@ -241,7 +273,8 @@ feeds_come P m r Program f t s h = absurd h
 feeds_come P m r (Bounds a b) f t s (inl i) = from_only P _ _ _ f (part_origin P r a t s.0).is_origin i
 feeds_come P m r (Bounds a b) f t s (inr (inl i)) = from_only P _ _ _ f (part_origin P r b t s.1).is_origin i
 feeds_come P m r (Bounds a b) f t s (inr (inr (inl i))) = from_only P _ _ _ f s.2 i
-feeds_come P m r (Bounds a b) f t s (inr (inr (inr (inl i)))) = from_only P _ _ _ f (part_origin P r a t s.0).is_origin i
+feeds_come P m r (Bounds a b) f t s (inr (inr (inr (inl i)))) =
+    from_only P _ _ _ f (part_origin P r a t s.0).is_origin i
 feeds_come P m r (Bounds a b) f t s (inr (inr (inr (inr h)))) = absurd h
 feeds_come P m r (Carried k) f t s (inl i) = from_only P _ _ _ f s i
 feeds_come P m r (Carried k) f t s (inr h) = absurd h
@@ -274,7 +307,8 @@ feeds_come P m r Entries f t s h =
     entries_come P (turn_row P (block P m)) (1 + length (carried P (block P m))) 0 (imports_of P (block P m)) f s h
 feeds_come P m r (Switches c) f t s (inl i) = from_only P _ _ _ f (part_origin P r c t s.0).is_origin i
 feeds_come P m r (Switches c) f t s (inr (inl i)) = from_only P _ _ _ f (trigger_origin P r s.1) i
-feeds_come P m r (Switches c) f t s (inr (inr h)) = imports_come P (origin P c) r 1 (imports_of P m) f t (part_origin P r c t s.0).is_origin s.2 h
+feeds_come P m r (Switches c) f t s (inr (inr h)) =
+    imports_come P (origin P c) r 1 (imports_of P m) f t (part_origin P r c t s.0).is_origin s.2 h
 feeds_come P m r Turn f t s (inl i) = from_only P _ _ _ f (trigger_origin P r s.0) i
 feeds_come P m r Turn f t s (inr h) =
     let g = block P m in
@@ -305,7 +339,8 @@ feeds_come P m r (Store a v) f t s (inr (inl i)) = from_only P _ _ _ f (part_ori
 feeds_come P m r (Store a v) f t s (inr (inr h)) = absurd h
 
 -- the feeds of imports go to the parts from k on
-imports_later : (P : Checked) (s : Origin) (r : Region) (k : ℕ) (bs : List ℕ) (f : Feed) → Among f (import_feeds P s r k bs) → k ≤ f.part
+imports_later : (P : Checked) (s : Origin) (r : Region) (k : ℕ) (bs : List ℕ) (f : Feed)
+    → Among f (import_feeds P s r k bs) → k ≤ f.part
 imports_later P s r k [] f h = absurd h
 imports_later P s r k (b ∷ bs) f (inl i) = omega (arith, ap (λ x. x.part) i)
 imports_later P s r k (b ∷ bs) f (inr (inl i)) = omega (arith, ap (λ x. x.part) i)
@@ -318,7 +353,10 @@ imports_differ P s r k (b ∷ bs) = (
     | inl i ↦ (let e = ap (λ x. x.port) i in cc)
     | inr i ↦ (let later = imports_later P s r (k + 1) bs (feed s k Zero) i in absurd (omega arith))
   ],
-  (λ h. (let later = imports_later P s r (k + 1) bs (feed (name_in P r b) k One) h in absurd (omega arith)), imports_differ P s r (k + 1) bs),
+  (
+    λ h. (let later = imports_later P s r (k + 1) bs (feed (name_in P r b) k One) h in absurd (omega arith)),
+    imports_differ P s r (k + 1) bs,
+  ),
 )
 
 entries_later : (n m k : ℕ) (bs : List ℕ) (f : Feed) → Among f (entry_feeds n m k bs) → k ≤ f.part
@@ -372,16 +410,21 @@ rising_differ k (x ∷ fs) u = (
 carried_rise : (P : Checked) (m : ℕ) (r : Region) (g : ℕ) → Rising 1 (carried_feeds P m r g)
 carried_rise P m r g = go (has_index P g)
   where
-    go : (t : Bool) → Rising 1 (cond t (feed (part_of (m - 1) 4) 1 Zero ∷ feed (name_in P r (g + 2)) 2 Zero ∷ feed (output (m - 1)) 3 Zero ∷ []) [])
+    go : (t : Bool)
+        → Rising 1
+        (cond t (feed (part_of (m - 1) 4) 1 Zero ∷ feed (name_in P r (g + 2)) 2 Zero ∷ feed (output (m - 1)) 3 Zero
+        ∷ []) [])
     go true = (omega arith, (omega arith, (omega arith, tt)))
     go false = tt
 
 bounds_rise : (P : Checked) (m : ℕ) (x : Node) → Rising 1 (bounds_feeds P m x)
-bounds_rise P m (Bounds a b) = (omega arith, (omega arith, (omega arith, (omega arith, (omega arith, (omega arith, tt))))))
+bounds_rise P m (Bounds a b) =
+    (omega arith, (omega arith, (omega arith, (omega arith, (omega arith, (omega arith, tt))))))
 bounds_rise P m _ = tt
 
 -- they go to no other parts than those of what is carried on
-carried_early : (P : Checked) (m : ℕ) (r : Region) (g : ℕ) (f : Feed) → Among f (carried_feeds P m r g) → (1 ≤ f.part) × (f.part ≤ length (carried P g))
+carried_early : (P : Checked) (m : ℕ) (r : Region) (g : ℕ) (f : Feed) → Among f (carried_feeds P m r g)
+    → (1 ≤ f.part) × (f.part ≤ length (carried P g))
 carried_early P m r g f among = go (has_index P g) among
   where
     fs : List Feed
@@ -393,12 +436,13 @@ carried_early P m r g f among = go (has_index P g) among
     there (inr (inr (inl i))) = let e = ap (λ (x : Feed). x.part) i in (omega (arith, e), omega (arith, e))
     there (inr (inr (inr h))) = absurd h
 
-    go : (t : Bool) → Among f (cond t fs []) → (1 ≤ f.part) × (f.part ≤ length (cond t ((g + 1) ∷ (g + 2) ∷ (g + 3) ∷ []) []))
+    go : (t : Bool) → Among f (cond t fs [])
+        → (1 ≤ f.part) × (f.part ≤ length (cond t ((g + 1) ∷ (g + 2) ∷ (g + 3) ∷ []) []))
     go true h = there h
     go false h = absurd h
 
-bounds_early : (P : Checked) (m : ℕ) (r : Region) (x : Node) (f : Feed) → SuitsBounds P m r x → Among f (bounds_feeds P m x)
-    → (1 ≤ f.part) × (f.part ≤ length (carried P (m + 1)))
+bounds_early : (P : Checked) (m : ℕ) (r : Region) (x : Node) (f : Feed) → SuitsBounds P m r x
+    → Among f (bounds_feeds P m x) → (1 ≤ f.part) × (f.part ≤ length (carried P (m + 1)))
 bounds_early P m r (Bounds a b) f s among = let z = there among in (z.0, omega (arith, z.1, three))
   where
     three : length (carried P (m + 1)) ≡ 3
@@ -410,32 +454,38 @@ bounds_early P m r (Bounds a b) f s among = let z = there among in (z.0, omega (
     there (inr (inr (inl i))) = let e = ap (λ (x : Feed). x.part) i in (omega (arith, e), omega (arith, e))
     there (inr (inr (inr (inl i)))) = let e = ap (λ (x : Feed). x.part) i in (omega (arith, e), omega (arith, e))
     there (inr (inr (inr (inr (inl i))))) = let e = ap (λ (x : Feed). x.part) i in (omega (arith, e), omega (arith, e))
-    there (inr (inr (inr (inr (inr (inl i)))))) = let e = ap (λ (x : Feed). x.part) i in (omega (arith, e), omega (arith, e))
+    there (inr (inr (inr (inr (inr (inl i)))))) =
+        let e = ap (λ (x : Feed). x.part) i in (omega (arith, e), omega (arith, e))
     there (inr (inr (inr (inr (inr (inr h)))))) = absurd h
 bounds_early P m r _ f s among = absurd among
 
 -- the feeds of switches differ
 switches_differ : (P : Checked) (m c : ℕ) (r : Region)
-    → AllDiffer (feed (origin P c) 0 Zero ∷ feed (trigger_of r) 0 One ∷ import_feeds P (origin P c) r 1 (imports_of P m))
+    → AllDiffer (feed (origin P c) 0 Zero ∷ feed (trigger_of r) 0 One
+    ∷ import_feeds P (origin P c) r 1 (imports_of P m))
 switches_differ P m c r = (
   λ h. elim h [
     | inl i ↦ (let e = ap (λ x. x.port) i in cc)
-    | inr i ↦ (let later = imports_later P (origin P c) r 1 (imports_of P m) (feed (origin P c) 0 Zero) i in absurd (omega arith))
+    | inr i ↦ (let later = imports_later P (origin P c) r 1 (imports_of P m) (feed (origin P c) 0 Zero) i in
+        absurd (omega arith))
   ],
   (
-    λ h. (let later = imports_later P (origin P c) r 1 (imports_of P m) (feed (trigger_of r) 0 One) h in absurd (omega arith)),
+    λ h. (let later = imports_later P (origin P c) r 1 (imports_of P m) (feed (trigger_of r) 0 One) h in
+        absurd (omega arith)),
     imports_differ P (origin P c) r 1 (imports_of P m),
   ),
 )
 
 -- the feeds of a row differ
-pub feeds_differ : (P : Checked) (m : ℕ) (r : Region) (n : Node) → IsBuildable P → Suits P m r n → AllDiffer (feeds_of P m r n)
+pub feeds_differ : (P : Checked) (m : ℕ) (r : Region) (n : Node) → IsBuildable P → Suits P m r n
+    → AllDiffer (feeds_of P m r n)
 feeds_differ P m r Head t s = (λ h. h, tt)
 feeds_differ P m r (Param x k) t s = tt
 feeds_differ P m r (Literal v) t s = (λ h. h, tt)
 feeds_differ P m r (Name x) t s = tt
 feeds_differ P m r (UnaryNode o a) t s = (λ h. h, tt)
-feeds_differ P m r (BinaryNode o a b) t s = (λ h. elim h [ inl i ↦ (let e = ap (λ f. f.port) i in cc) | inr i ↦ i ], (λ h. h, tt))
+feeds_differ P m r (BinaryNode o a b) t s =
+    (λ h. elim h [ inl i ↦ (let e = ap (λ f. f.port) i in cc) | inr i ↦ i ], (λ h. h, tt))
 feeds_differ P m r (Split c) t s = switches_differ P m c r
 feeds_differ P m r (If g x y) t s = (
   λ h. elim h [
@@ -450,7 +500,8 @@ feeds_differ P m r (If g x y) t s = (
   (λ h. h, tt),
 )
 feeds_differ P m r (Enter x) t s = (λ h. h, tt)
-feeds_differ P m r (Arg g k v) t s = (λ h. elim h [ inl i ↦ (let e = ap (λ f. f.port) i in cc) | inr i ↦ i ], (λ h. h, tt))
+feeds_differ P m r (Arg g k v) t s =
+    (λ h. elim h [ inl i ↦ (let e = ap (λ f. f.port) i in cc) | inr i ↦ i ], (λ h. h, tt))
 feeds_differ P m r (Call g c) t s = tt
 feeds_differ P m r (Block b) t s = tt
 feeds_differ P m r (Binding x a) t s = (λ h. h, tt)
@@ -461,26 +512,36 @@ feeds_differ P m r (Bounds a b) t s =
 feeds_differ P m r (Carried k) t s = (λ h. h, tt)
 feeds_differ P m r (Within g) t s = tt
 feeds_differ P m r Count t s =
-    rising_differ 0 (feeds_of P m r Count)
-    (omega arith, (omega arith, (omega arith, (omega arith, (omega arith, (omega arith, (omega arith, (omega arith, (omega arith, tt)))))))))
+    rising_differ 0 (feeds_of P m r Count) (
+      omega arith,
+      (
+        omega arith,
+        (omega arith, (omega arith, (omega arith, (omega arith, (omega arith, (omega arith, (omega arith, tt))))))),
+      ),
+    )
 feeds_differ P m r (Index x) t s = tt
 feeds_differ P m r Span t s = tt
 feeds_differ P m r Start t s =
     let k = 1 + length (carried P (m + 1)) in
     let bs = bounds_feeds P m (node P (m - 1)) in
     let is = import_feeds P (output m) r k (entering P (m + 1)) in
-    let early : (f : Feed) → Among f bs → (1 ≤ f.part) × (f.part ≤ length (carried P (m + 1))) = λ f h. bounds_early P m r (node P (m - 1)) f s.3 h in
-    let late : (f : Feed) → Among f is → k ≤ f.part = λ f h. imports_later P (output m) r k (entering P (m + 1)) f h in (
+    let early : (f : Feed) → Among f bs → (1 ≤ f.part) × (f.part ≤ length (carried P (m + 1))) =
+    λ f h. bounds_early P m r (node P (m - 1)) f s.3 h in
+    let late : (f : Feed) → Among f is → k ≤ f.part =
+    λ f h. imports_later P (output m) r k (entering P (m + 1)) f h in (
       λ h. elim (Among-either (feed (trigger_of r) 0 Zero) bs is h) [
         | inl i ↦ (let z = early (feed (trigger_of r) 0 Zero) i in absurd (omega (arith, z.0)))
         | inr i ↦ (let z = late (feed (trigger_of r) 0 Zero) i in absurd (omega (arith, z)))
       ],
-      AllDiffer-append bs is (rising_differ 1 bs (bounds_rise P m (node P (m - 1)))) (imports_differ P (output m) r k (entering P (m + 1)))
+      AllDiffer-append bs is (rising_differ 1 bs (bounds_rise P m (node P (m - 1))))
+          (imports_differ P (output m) r k (entering P (m + 1)))
           (λ f i j. (let y = early f i in let z = late f j in absurd (omega (arith, y.1, z)))),
     )
-feeds_differ P m r (LoopHead g) t s = (λ h. elim h [ inl i ↦ (let e = ap (λ f. f.port) i in cc) | inr i ↦ i ], (λ h. h, tt))
+feeds_differ P m r (LoopHead g) t s =
+    (λ h. elim h [ inl i ↦ (let e = ap (λ f. f.port) i in cc) | inr i ↦ i ], (λ h. h, tt))
 feeds_differ P m r Variable t s = (λ h. h, tt)
-feeds_differ P m r Entries t s = entries_differ (turn_row P (block P m)) (1 + length (carried P (block P m))) 0 (imports_of P (block P m))
+feeds_differ P m r Entries t s =
+    entries_differ (turn_row P (block P m)) (1 + length (carried P (block P m))) 0 (imports_of P (block P m))
 feeds_differ P m r (Switches c) t s = switches_differ P m c r
 feeds_differ P m r Turn t s =
     let g = block P m in
@@ -500,7 +561,8 @@ feeds_differ P m r (Next x k o v) t s = (λ h. h, tt)
 feeds_differ P m r Body t s = tt
 feeds_differ P m r (Reset v) t s = (λ h. h, tt)
 feeds_differ P m r (Loop g w l) t s = tt
-feeds_differ P m r (Array nested a b) t s = (λ h. elim h [ inl i ↦ (let e = ap (λ f. f.port) i in cc) | inr i ↦ i ], (λ h. h, tt))
+feeds_differ P m r (Array nested a b) t s =
+    (λ h. elim h [ inl i ↦ (let e = ap (λ f. f.port) i in cc) | inr i ↦ i ], (λ h. h, tt))
 feeds_differ P m r (Fetch a b) t s = (
   λ h. elim h [
     | inl i ↦ (let e = ap (λ f. f.port) i in cc)
@@ -508,5 +570,7 @@ feeds_differ P m r (Fetch a b) t s = (
   ],
   (λ h. elim h [ inl i ↦ absurd (omega (arith, ap (λ (f : Feed). f.part) i)) | inr i ↦ i ], (λ h. h, tt)),
 )
-feeds_differ P m r (Address a b) t s = (λ h. elim h [ inl i ↦ (let e = ap (λ f. f.port) i in cc) | inr i ↦ i ], (λ h. h, tt))
-feeds_differ P m r (Store a v) t s = (λ h. elim h [ inl i ↦ (let e = ap (λ f. f.port) i in cc) | inr i ↦ i ], (λ h. h, tt))
+feeds_differ P m r (Address a b) t s =
+    (λ h. elim h [ inl i ↦ (let e = ap (λ f. f.port) i in cc) | inr i ↦ i ], (λ h. h, tt))
+feeds_differ P m r (Store a v) t s =
+    (λ h. elim h [ inl i ↦ (let e = ap (λ f. f.port) i in cc) | inr i ↦ i ], (λ h. h, tt))

@@ -20,11 +20,13 @@ Among-get_or xs i h = Among-from_at (get_or xs i 0) xs i (slice_get-get_or xs i 
 -- one more row adds its instructions
 pub pieces_in-next : (P : Checked) (order : List ℕ) (i : ℕ) → i < length order
     → pieces_in P (take (i + 1) order) ≡ pieces_in P (take i order) ++ made P (get_or order i 0)
-pieces_in-next P order i h = ap (pieces_in P) (take_more order i 0 h) ∙ pieces_in-push P (take i order) (get_or order i 0)
+pieces_in-next P order i h =
+    ap (pieces_in P) (take_more order i 0 h) ∙ pieces_in-push P (take i order) (get_or order i 0)
 
 -- as many as it makes
 pub count_in-next : (P : Checked) (order : List ℕ) (i : ℕ) → i < length order
-    → length (pieces_in P (take (i + 1) order)) ≡ length (pieces_in P (take i order)) + length (made P (get_or order i 0))
+    → length (pieces_in P (take (i + 1) order)) ≡ length (pieces_in P (take i order))
+    + length (made P (get_or order i 0))
 count_in-next P order i h =
     ap length (pieces_in-next P order i h) ∙ length-append (pieces_in P (take i order)) (made P (get_or order i 0))
 
@@ -46,16 +48,21 @@ read : (F : List ℕ) (m : ℕ) → number_by F m 0 ≡ get_or F m 0
 read F m = let e = unwrap_or-slice_get F m 0 in omega arith
 
 -- one more row has its number
-pub first_in-next : (P : Checked) (order F : List ℕ) (i v : ℕ) → AllDiffer order → i < length order → get_or order i 0 < length F →
-    v ≡ length (pieces_in P (take i order)) → ((m : ℕ) → m < length (rows P) → number_by F m 0 ≡ first_in P 0 (take i order) m) → (m : ℕ) →
+pub first_in-next : (P : Checked) (order F : List ℕ) (i v : ℕ) → AllDiffer order → i < length order
+    → get_or order i 0 < length F →
+    v ≡ length (pieces_in P (take i order))
+    → ((m : ℕ) → m < length (rows P) → number_by F m 0 ≡ first_in P 0 (take i order) m) → (m : ℕ) →
     m < length (rows P) → number_by (set F (get_or order i 0) v) m 0 ≡ first_in P 0 (take (i + 1) order) m
 first_in-next P order F i v d h l e f m lt =
     let n = get_or order i 0 in
     read (set F n v) m ∙ at (eqb_tells n m)
-    ∙ sym (first_in-push P (take i order) 0 n m (not_before order i d h)) ∙ ap (λ l. first_in P 0 l m) (sym (take_more order i 0 h))
+    ∙ sym (first_in-push P (take i order) 0 n m (not_before order i d h))
+    ∙ ap (λ l. first_in P 0 l m) (sym (take_more order i 0 h))
   where
-    at : ((eqb (get_or order i 0) m ≡ true) × (get_or order i 0 ≡ m)) ⊎ ((eqb (get_or order i 0) m ≡ false) × (get_or order i 0 ≢ m)) →
-        get_or (set F (get_or order i 0) v) m 0 ≡ cond (eqb (get_or order i 0) m) (0 + length (pieces_in P (take i order))) (first_in P 0 (take i order) m)
+    at : ((eqb (get_or order i 0) m ≡ true) × (get_or order i 0 ≡ m))
+        ⊎ ((eqb (get_or order i 0) m ≡ false) × (get_or order i 0 ≢ m)) →
+        get_or (set F (get_or order i 0) v) m 0
+        ≡ cond (eqb (get_or order i 0) m) (0 + length (pieces_in P (take i order))) (first_in P 0 (take i order) m)
     at (inl t) =
         let here : get_or (set F (get_or order i 0) v) (get_or order i 0) 0 ≡ v = rw get_or-set_same refl in
         let G : ℕ → Type 0 = λ z. get_or (set F (get_or order i 0) v) z 0 ≡ v in

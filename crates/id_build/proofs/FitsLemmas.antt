@@ -1,5 +1,6 @@
 -- The entries that `send`s name, and the replies of `fetch`es, have numbers that an instruction can have.
-use Rattle.std.proofs.Common.{◌≡◌, ◌⊎◌, inl, inr, ℕ, zero, suc, ◌+◌, ◌<◌, ◌≤◌, Bool, true, false, cond, eqb, List, [], ◌∷◌, ◌++◌, length, map, get_or}
+use Rattle.std.proofs.Common.{◌≡◌, ◌⊎◌, inl, inr, ℕ, zero, suc, ◌+◌, ◌<◌, ◌≤◌, Bool, true, false, cond, eqb, List, []}
+use Rattle.std.proofs.Common.{◌∷◌, ◌++◌, length, map, get_or}
 use Rattle.std.proofs.Common.{refl, ap, sym, subst, ◌∙◌, arith, Some, eq-eqb, length-append}
 use Rattle.std.specs.Prelude.{All, slice_get}
 use Rattle.std.proofs.Math.ListN.{get_or-eq_default}
@@ -9,9 +10,12 @@ use Rattle.std.proofs.lemmas.Option.{slice_get-get_or}
 use Rattle.id_value.specs.List.{Among}
 use Rattle.id_table.specs.declared.row.Row.{Row}
 use Rattle.id_table.specs.declared.row.Node.{Node}
-use Rattle.id_table.specs.declared.row.Node.TheVariants.{Head, Param, Literal, Name, Unary, Binary, Split, If, Enter, Arg, Call}
-use Rattle.id_table.specs.declared.row.Node.TheVariants.{Block, Binding, Def, Program, Start, LoopHead, Variable, Entries, Switches}
-use Rattle.id_table.specs.declared.row.Node.TheVariants.{Turn, NextUse, Next, Body, Reset, Loop, Array, Fetch, Address, Store}
+use Rattle.id_table.specs.declared.row.Node.TheVariants.{Head, Param, Literal, Name, Unary, Binary, Split, If, Enter}
+use Rattle.id_table.specs.declared.row.Node.TheVariants.{Arg, Call}
+use Rattle.id_table.specs.declared.row.Node.TheVariants.{Block, Binding, Def, Program, Start, LoopHead, Variable}
+use Rattle.id_table.specs.declared.row.Node.TheVariants.{Entries, Switches}
+use Rattle.id_table.specs.declared.row.Node.TheVariants.{Turn, NextUse, Next, Body, Reset, Loop, Array, Fetch, Address}
+use Rattle.id_table.specs.declared.row.Node.TheVariants.{Store}
 use Rattle.id_table.specs.declared.row.Node.TheVariants.{Bounds, Carried, Within, Count, Index, Span}
 use Rattle.id_table.specs.Rows.{no_row}
 use Rattle.id_table.specs.Tables.{is_param}
@@ -25,7 +29,8 @@ use Rattle.id_build.specs.declared.arc.Form.{Form}
 use Rattle.id_build.specs.declared.arc.Form.TheVariants.{Plain, EnterAt, SendTo, FetchAt}
 use Rattle.id_build.specs.declared.arc.Piece.{Piece}
 use Rattle.id_build.specs.Made.{AreFirsts, EntriesFit, Fits, first_in, number_by, pieces_in}
-use Rattle.id_build.specs.Rows.{block, called, entries_row, for_each, import_entries, made, made_of, node, param_at, param_entry, send_to, variable_entries}
+use Rattle.id_build.specs.Rows.{block, called, entries_row, for_each, import_entries, made, made_of, node, param_at}
+use Rattle.id_build.specs.Rows.{param_entry, send_to, variable_entries}
 use Rattle.id_build.proofs.LoopsLemmas.{entries_node, entries_stand, entries_within, start_head}
 use Rattle.id_build.proofs.OrderLemmas.{IsOrder}
 use Rattle.id_build.proofs.SizeLemmas.{length-entries}
@@ -54,7 +59,8 @@ each_plain : (P : Checked) (op : PortKind → Op) (e : ℕ) (bs : List ℕ) → 
 each_plain P op e [] = tt
 each_plain P op e (b ∷ bs) = (tt, each_plain P op e bs)
 
-each_variable : (P : Checked) (e v : ℕ) (ms : List ℕ) → v + length ms ≤ length (rows P) → Each P (map (send_to P e) (variable_entries v ms))
+each_variable : (P : Checked) (e v : ℕ) (ms : List ℕ) → v + length ms ≤ length (rows P)
+    → Each P (map (send_to P e) (variable_entries v ms))
 each_variable P e v [] l = tt
 each_variable P e v (m ∷ ms) l = ((omega (arith, l), omega arith), each_variable P e (v + 1) ms (omega (arith, l)))
 
@@ -63,21 +69,28 @@ each_import : (P : Checked) (e n k : ℕ) (bs : List ℕ) → n < length (rows P
 each_import P e n k [] w l = tt
 each_import P e n k (b ∷ bs) w l = ((w, omega (arith, l)), each_import P e n (k + 1) bs w (omega (arith, l)))
 
-each_carried : (P : Checked) (e h : ℕ) → h + 3 < length (rows P) ⊎ (has_index P h ≡ false) → Each P (map (send_to P e) (map param_entry (carried P h)))
+each_carried : (P : Checked) (e h : ℕ) → h + 3 < length (rows P) ⊎ (has_index P h ≡ false)
+    → Each P (map (send_to P e) (map param_entry (carried P h)))
 each_carried P e h (inr none) =
-    subst (λ t. Each P (map (send_to P e) (map param_entry (cond t ((h + 1) ∷ (h + 2) ∷ (h + 3) ∷ []) [])))) (sym none) tt
+    subst (λ t. Each P (map (send_to P e) (map param_entry (cond t ((h + 1) ∷ (h + 2) ∷ (h + 3) ∷ []) [])))) (sym none)
+    tt
 each_carried P e h (inl low) = go (has_index P h)
   where
     go : (t : Bool) → Each P (map (send_to P e) (map param_entry (cond t ((h + 1) ∷ (h + 2) ∷ (h + 3) ∷ []) [])))
-    go true = ((omega (arith, low), omega arith), (((omega (arith, low), omega arith), (((omega (arith, low), omega arith), tt)))))
+    go true = (
+      (omega (arith, low), omega arith),
+      (((omega (arith, low), omega arith), (((omega (arith, low), omega arith), tt)))),
+    )
     go false = tt
 
 -- as many entries stand there as a loop has imports
-entries_count : (P : Checked) (h s : ℕ) → h < length (rows P) → node P h ≡ LoopHead s → length (made P (entries_row P h)) ≡ length (imports_of P h)
+entries_count : (P : Checked) (h s : ℕ) → h < length (rows P) → node P h ≡ LoopHead s
+    → length (made P (entries_row P h)) ≡ length (imports_of P h)
 entries_count P h s l e =
     let n = entries_row P h in
     let own = (entries_stand P h s l e n (omega arith) (omega arith)).0 in
-    ap (λ m. length (made_of P n (place P n) m)) (entries_node P h s l e) ∙ length-entries P n (place P n) ∙ ap (λ g. length (imports_of P g)) own
+    ap (λ m. length (made_of P n (place P n) m)) (entries_node P h s l e) ∙ length-entries P n (place P n)
+    ∙ ap (λ g. length (imports_of P g)) own
 
 param_inside : (P : Checked) (b : ℕ) → 0 < length (rows P) → param_at P b < length (rows P)
 param_inside P b some = go (is_param (node P b)) refl
@@ -116,7 +129,10 @@ each_made P n e Start l is =
     let last : List Piece = map (send_to P e) (import_entries (entries_row P h) 0 (imports_of P h)) in
     let both = each_both P first last (each_variable P e v (nexts_of P h) (omega (arith, w)))
     (each_import P e (entries_row P h) 0 (imports_of P h) w (omega (arith, count))) in
-    let behind = subst (Each P) (sym (map-append (send_to P e) (variable_entries v (nexts_of P h)) (import_entries (entries_row P h) 0 (imports_of P h)))) both in (
+    let behind =
+    subst (Each P)
+    (sym (map-append (send_to P e) (variable_entries v (nexts_of P h))
+    (import_entries (entries_row P h) 0 (imports_of P h)))) both in (
       tt,
       subst (Each P) (sym (map-append (send_to P e) (map param_entry (carried P h))
           (variable_entries v (nexts_of P h) ++ import_entries (entries_row P h) 0 (imports_of P h))))
@@ -160,12 +176,14 @@ each_row P n = elim (cases_lt n (length (rows P))) [
 ]
 
 -- what stands just behind the instructions of a row has no greater number than there are
-first_in-most : (P : Checked) (order : List ℕ) (m n : ℕ) → Among n order → first_in P m order n + length (made P n) ≤ m + length (pieces_in P order)
+first_in-most : (P : Checked) (order : List ℕ) (m n : ℕ) → Among n order
+    → first_in P m order n + length (made P n) ≤ m + length (pieces_in P order)
 first_in-most P [] m n h = absurd h
 first_in-most P (x ∷ xs) m n h = go (eqb x n) refl h (λ k. first_in-most P xs (m + length (made P x)) n k)
   where
     go : (t : Bool) → eqb x n ≡ t → Among n (x ∷ xs)
-        → (Among n xs → first_in P (m + length (made P x)) xs n + length (made P n) ≤ m + length (made P x) + length (pieces_in P xs))
+        → (Among n xs
+        → first_in P (m + length (made P x)) xs n + length (made P n) ≤ m + length (made P x) + length (pieces_in P xs))
         → cond t m (first_in P (m + length (made P x)) xs n) + length (made P n) ≤ m + length (pieces_in P (x ∷ xs))
     go true e h rest =
         let same = ap (λ k. length (made P k)) (eqb-true x n e) in
@@ -173,7 +191,8 @@ first_in-most P (x ∷ xs) m n h = go (eqb x n) refl h (λ k. first_in-most P xs
     go false e (inl i) rest = absurd (false≢true (sym e ∙ eq-eqb x n (sym i)))
     go false e (inr k) rest = omega (arith, rest k, length-append (made P x) (pieces_in P xs))
 
-module _ (P : Checked) (order F : List ℕ) (o : IsOrder P order) (fs : AreFirsts P order F) (few : length (pieces_in P order) ≤ 1000000) where
+module _ (P : Checked) (order F : List ℕ) (o : IsOrder P order) (fs : AreFirsts P order F)
+    (few : length (pieces_in P order) ≤ 1000000) where
   number_fits : (n j : ℕ) → n < length (rows P) → j ≤ length (made P n) → number_by F n j ≤ 1000000
   number_fits n j l m =
       let here = fs.at n l in
@@ -197,5 +216,6 @@ module _ (P : Checked) (order F : List ℕ) (o : IsOrder P order) (fs : AreFirst
   pub entries_fit : EntriesFit P F
   entries_fit h s l e =
       let count = entries_count P h s l e in
-      let z = number_fits (entries_row P h) (length (imports_of P h)) (entries_within P h s l e) (omega (arith, count)) in
+      let z = number_fits (entries_row P h) (length (imports_of P h)) (entries_within P h s l e)
+      (omega (arith, count)) in
       omega (arith, z)

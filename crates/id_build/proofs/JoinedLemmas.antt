@@ -27,7 +27,8 @@ dests_from-push_same m s (v ∷ ws) w e =
     [ true ↦ ap (λ l. dest_of v ∷ l) (dests_from-push_same m s ws w e) | false ↦ dests_from-push_same m s ws w e ]
 
 -- one more arc from elsewhere changes nothing
-pub dests_from-push_other : (m : ℕ) (s : Bool) (ws : List Arc) (w : Arc) → is_from m s w ≡ false → dests_from m s (ws ++ w ∷ []) ≡ dests_from m s ws
+pub dests_from-push_other : (m : ℕ) (s : Bool) (ws : List Arc) (w : Arc) → is_from m s w ≡ false
+    → dests_from m s (ws ++ w ∷ []) ≡ dests_from m s ws
 dests_from-push_other m s [] w e = rw e refl
 dests_from-push_other m s (v ∷ ws) w e =
     elim (is_from m s v) as (λ b. cond b (dest_of v ∷ dests_from m s (ws ++ w ∷ [])) (dests_from m s (ws ++ w ∷ [])) ≡
@@ -59,7 +60,8 @@ joined-push F m p ws w e = at w.side refl
         let other = dests_from-push_other m true ws w (is_from-here m true w e ∙ ap (λ x. beq x true) h) in
         rw (same, other) refl
 
-joined-other : (F : List ℕ) (m : ℕ) (p : Piece) (ws : List Arc) (w : Arc) → w.from ≢ m → joined F m p (ws ++ w ∷ []) ≡ joined F m p ws
+joined-other : (F : List ℕ) (m : ℕ) (p : Piece) (ws : List Arc) (w : Arc) → w.from ≢ m
+    → joined F m p (ws ++ w ∷ []) ≡ joined F m p ws
 joined-other F m p ws w ne =
     let one = dests_from-push_other m true ws w (is_from-other m true w ne) in
     let two = dests_from-push_other m false ws w (is_from-other m false w ne) in
@@ -87,7 +89,8 @@ instrs_from-push F (p ∷ ps) m (suc k) ws w e =
     cc
 
 -- each piece gives one instruction
-pub length-instrs_from : (F : List ℕ) (m : ℕ) (ps : List Piece) (ws : List Arc) → length (instrs_from F m ps ws) ≡ length ps
+pub length-instrs_from : (F : List ℕ) (m : ℕ) (ps : List Piece) (ws : List Arc)
+    → length (instrs_from F m ps ws) ≡ length ps
 length-instrs_from F m [] ws = refl
 length-instrs_from F m (p ∷ ps) ws = ap suc (length-instrs_from F (m + 1) ps ws)
 
@@ -110,7 +113,8 @@ length-connected is [] = refl
 length-connected is (v ∷ vs) = length-connected (connected is v) vs ∙ length-connected_at is v.from v.side (dest_of v)
 
 -- the instructions of these pieces with some arcs, and then with others, are those with all of them
-pub instrs_from-append : (F : List ℕ) (ps : List Piece) (ws vs : List Arc) → fold connected (instrs_from F 0 ps ws) vs ≡ instrs_from F 0 ps (ws ++ vs)
+pub instrs_from-append : (F : List ℕ) (ps : List Piece) (ws vs : List Arc)
+    → fold connected (instrs_from F 0 ps ws) vs ≡ instrs_from F 0 ps (ws ++ vs)
 instrs_from-append F ps ws [] = ap (instrs_from F 0 ps) (sym (append-nil ws))
 instrs_from-append F ps ws (v ∷ vs) =
     ap (λ (is : List Instr). fold connected is vs) (sym (instrs_from-push F ps 0 v.from ws v (omega arith)))
@@ -120,7 +124,8 @@ instrs_from-append F ps ws (v ∷ vs) =
 pub AreBetween-left : (n : ℕ) (vs ws : List Arc) → All (IsBetween n) (vs ++ ws) → All (IsBetween n) vs
 AreBetween-left n [] ws h k d lt = absurd (omega arith)
 AreBetween-left n (v ∷ vs) ws h zero d lt = h zero d (omega arith)
-AreBetween-left n (v ∷ vs) ws h (suc k) d lt = AreBetween-left n vs ws (λ j e less. h (suc j) e (omega arith)) k d (omega arith)
+AreBetween-left n (v ∷ vs) ws h (suc k) d lt =
+    AreBetween-left n vs ws (λ j e less. h (suc j) e (omega arith)) k d (omega arith)
 
 pub AreBetween-right : (n : ℕ) (vs ws : List Arc) → All (IsBetween n) (vs ++ ws) → All (IsBetween n) ws
 AreBetween-right n [] ws h = h
@@ -132,6 +137,7 @@ bare-any F m k [] = refl
 bare-any F m k (p ∷ ps) = ap (λ l. joined F 0 p [] ∷ l) (bare-any F (m + 1) (k + 1) ps)
 
 -- the instructions of more pieces stand behind those of the first
-pub bare-append : (F : List ℕ) (m : ℕ) (ps qs : List Piece) → instrs_from F m (ps ++ qs) [] ≡ instrs_from F m ps [] ++ instrs_from F 0 qs []
+pub bare-append : (F : List ℕ) (m : ℕ) (ps qs : List Piece)
+    → instrs_from F m (ps ++ qs) [] ≡ instrs_from F m ps [] ++ instrs_from F 0 qs []
 bare-append F m [] qs = bare-any F m 0 qs
 bare-append F m (p ∷ ps) qs = ap (λ l. joined F m p [] ∷ l) (bare-append F (m + 1) ps qs)

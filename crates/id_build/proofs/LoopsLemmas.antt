@@ -6,7 +6,8 @@ use Rattle.std.specs.Prelude.{unwrap_or}
 use Rattle.std.proofs.Math.ListN.{get_or-eq_default}
 use Rattle.std.proofs.lemmas.Bool.{cases_lt, eqb-true, false≢true}
 use Rattle.id_table.specs.declared.row.Node.{Node}
-use Rattle.id_table.specs.declared.row.Node.TheVariants.{Head, LoopHead, Variable, Entries, Next, Reset, Start, Switches, Turn, Loop}
+use Rattle.id_table.specs.declared.row.Node.TheVariants.{Head, LoopHead, Variable, Entries, Next, Reset, Start}
+use Rattle.id_table.specs.declared.row.Node.TheVariants.{Switches, Turn, Loop}
 use Rattle.id_table.specs.declared.row.Node.TheVariants.{Carried, Count}
 use Rattle.id_table.specs.declared.row.Row.{Row}
 use Rattle.id_table.specs.Rows.{at, no_row, top}
@@ -19,7 +20,8 @@ use Rattle.id_check.specs.Programs.{region, rows}
 use Rattle.id_check.proofs.ProgramsLemmas.{table_of}
 use Rattle.id_desugar.specs.Ends.{end_of, is_row, next_of, variable_of}
 use Rattle.id_desugar.proofs.EndsLemmas.{row_inside, stands_inside}
-use Rattle.id_desugar.specs.Regions.{bound_of, carried, first_variable, handed, has_index, imports_of, is_loop_head, nexts_from, nexts_of, taken}
+use Rattle.id_desugar.specs.Regions.{bound_of, carried, first_variable, handed, has_index, imports_of, is_loop_head}
+use Rattle.id_desugar.specs.Regions.{nexts_from, nexts_of, taken}
 use Rattle.id_build.specs.Rows.{block, entries_row, node, switches_at, turn_row}
 use Rattle.id_build.proofs.EndsLemmas.{body_low, first_answers, itself_eq, loop_is, some_answer, tested, turn_low}
 
@@ -45,7 +47,8 @@ module _ {R : List Row} where
   -- ---- what a loop with an index has
 
   pub carried_nodes : {h c : ℕ} → AreCarried R h c → c ≡ 3
-      → ((at R (h + 1)).node ≡ Carried kind.Int) × ((at R (h + 2)).node ≡ Carried kind.Int) × ((at R (h + 3)).node ≡ Carried kind.Bool)
+      → ((at R (h + 1)).node ≡ Carried kind.Int) × ((at R (h + 2)).node ≡ Carried kind.Int)
+      × ((at R (h + 3)).node ≡ Carried kind.Bool)
   carried_nodes nothing e = absurd (omega (arith, e))
   carried_nodes (an_index a b d) e = (a, b, d)
 
@@ -58,7 +61,8 @@ module _ {R : List Row} where
   bounds_there (with_bounds {c = d} k b) e = (d, k, b)
 
   -- where the `Turn` stands behind the switches
-  pub turn_at : {w t c : ℕ} → IsTurn R w t c → (b : Truth) → (b ≡ true → c ≡ 3) → (c ≡ 3 → b ≡ true) → t ≡ w + cond b 2 1
+  pub turn_at : {w t c : ℕ} → IsTurn R w t c → (b : Truth) → (b ≡ true → c ≡ 3) → (c ≡ 3 → b ≡ true)
+      → t ≡ w + cond b 2 1
   turn_at (right k) true index none = absurd (omega (arith, index refl))
   turn_at (right k) false index none = k
   turn_at (behind_count k n x) true index none = k
@@ -84,7 +88,8 @@ module _ (P : Checked) (h e c : ℕ) (x : AreEntries (rows P) h e c) where
           none : has_index P h ≡ false
           none = elim (cases_lt (h + 1) e) [
             | inl l ↦ variable_bare (node P (h + 1)) (x.variable (h + 1) (omega (arith, k)) l)
-            | inr l ↦ (let same : h + 1 ≡ e = omega (arith, l, x.low) in ap (λ i. is_carried (node P i)) same ∙ ap is_carried x.entries)
+            | inr l ↦ (let same : h + 1 ≡ e = omega (arith, l, x.low) in
+                ap (λ i. is_carried (node P i)) same ∙ ap is_carried x.entries)
           ]
       go (an_index a b d) k = ap many (ap is_carried a) ∙ k
 
@@ -117,7 +122,8 @@ module _ (P : Checked) (h s : ℕ) (within : h < length (rows P)) (is : node P h
   -- they hand on the upper bound of its index, its variables, and then its imports
   pub switches_hand : imports_of P the_loop.switches ≡ bound_of P h ++ (nexts_of P h ++ imports_of P h)
   switches_hand =
-      ap (handed P the_loop.switches) loop_rows.test.node ∙ ap (λ g. bound_of P g ++ (nexts_of P g ++ taken P g)) loop_rows.test.block
+      ap (handed P the_loop.switches) loop_rows.test.node
+      ∙ ap (λ g. bound_of P g ++ (nexts_of P g ++ taken P g)) loop_rows.test.block
       ∙ ap (λ z. bound_of P h ++ (nexts_of P h ++ z)) (sym (ap (handed P h) is))
 
   -- how many entries it carries on beside
@@ -128,7 +134,8 @@ module _ (P : Checked) (h s : ℕ) (within : h < length (rows P)) (is : node P h
   pub turn_row_is : turn_row P h ≡ loop_rows.turn
   turn_row_is =
       ap (λ w. w + cond (has_index P h) 2 1) the_switches
-      ∙ sym (turn_at loop_rows.body_is.turns (has_index P h) (index_carried P h loop_rows.entries loop_rows.carried loop_rows.before_test)
+      ∙ sym (turn_at loop_rows.body_is.turns (has_index P h)
+      (index_carried P h loop_rows.entries loop_rows.carried loop_rows.before_test)
       (carried_index P h loop_rows.entries loop_rows.carried loop_rows.before_test))
 
   pub turn_is : node P (turn_row P h) ≡ Turn
@@ -145,15 +152,19 @@ module _ (P : Checked) (h s : ℕ) (within : h < length (rows P)) (is : node P h
         omega (arith, rest, ap (λ (b : Truth). length (cond b (next_of P v ∷ nexts_from P (suc v) n) [])) yes)
     | inr k ↦
         let here : v ≡ loop_rows.entries = omega (arith, k, l) in
-        let no : is_variable (node P v) ≡ false = ap (λ z. is_variable (node P z)) here ∙ ap is_variable loop_rows.before_test.entries in
+        let no : is_variable (node P v) ≡ false =
+        ap (λ z. is_variable (node P z)) here ∙ ap is_variable loop_rows.before_test.entries in
         omega (arith, here, ap (λ (b : Truth). length (cond b (next_of P v ∷ nexts_from P (suc v) n) [])) no)
   ]
 
   pub entries_are : entries_row P h ≡ loop_rows.entries
   entries_are =
       let v = first_variable P h in
-      let low : loop_rows.entries < v + length (rows P) = omega (arith, loop_rows.test.low, loop_rows.test.behind, switches_within) in
-      let rest = entries_at v (length (rows P)) (omega (arith, the_carried)) (omega (arith, the_carried, loop_rows.before_test.low)) low in
+      let low : loop_rows.entries < v + length (rows P) =
+      omega (arith, loop_rows.test.low, loop_rows.test.behind, switches_within) in
+      let rest =
+      entries_at v (length (rows P)) (omega (arith, the_carried))
+      (omega (arith, the_carried, loop_rows.before_test.low)) low in
       omega (arith, rest)
 
   pub entries_within : entries_row P h < length (rows P)
@@ -170,7 +181,8 @@ module _ (P : Checked) (h s : ℕ) (within : h < length (rows P)) (is : node P h
   variables_are i l m = loop_rows.before_test.variable i (omega (arith, l, the_carried)) (omega (arith, m, entries_are))
 
 -- what a `Start` begins is the loop whose head is the next row
-pub start_head : (P : Checked) (s : ℕ) → s < length (rows P) → node P s ≡ Start → (s + 1 < length (rows P)) × (node P (s + 1) ≡ LoopHead s)
+pub start_head : (P : Checked) (s : ℕ) → s < length (rows P) → node P s ≡ Start
+    → (s + 1 < length (rows P)) × (node P (s + 1) ≡ LoopHead s)
 start_head P s within is =
     let c = (table_of P).start_of_loop s within is in
     let rows = (table_of P).loop_is c.0 (s + 1) c.1 in
@@ -191,7 +203,8 @@ pub record IsNextFor (P : Checked) (v m : ℕ) : Type 0 where
   pub node : node P m ≡ Next name index outer value
   pub is : block P m + 1 + index ≡ v
 
-variable_next : (P : Checked) (v m : ℕ) (n : Node) → m < length (rows P) → node P m ≡ n → is_row v (variable_of (block P m) n) ≡ true → IsNextFor P v m
+variable_next : (P : Checked) (v m : ℕ) (n : Node) → m < length (rows P) → node P m ≡ n
+    → is_row v (variable_of (block P m) n) ≡ true → IsNextFor P v m
 variable_next P v m (Next x k o a) l e t =
     record { name = x; index = k; outer = o; value = a; within = l; node = e; is = eqb-true (block P m + 1 + k) v t }
 variable_next P v m _ l e t = absurd (false≢true t)
@@ -228,8 +241,10 @@ turn_block P h s within is =
     let r = loop_rows P h s within is in
     let z = turn_row_is P h s within is in
     let low = turn_low r.body_is.turns in
-    let high = turn_high r in
-    (omega (arith, z, high, (the_loop P h s within is).within), ap (block P) z ∙ (r.body_is.begins r.turn low (omega arith)).0)
+    let high = turn_high r in (
+      omega (arith, z, high, (the_loop P h s within is).within),
+      ap (block P) z ∙ (r.body_is.begins r.turn low (omega arith)).0,
+    )
 
 -- ---- rows and machine words
 
@@ -248,7 +263,8 @@ start_inside P n e = stands_inside P n Start e (λ bad. cc)
 pub carried_inside : (P : Checked) (h i : ℕ) → i < length (carried P h) → h + 1 < length (rows P)
 carried_inside P h i l = by (has_index P h) refl l
   where
-    by : (t : Truth) → has_index P h ≡ t → i < length (cond t ((h + 1) ∷ (h + 2) ∷ (h + 3) ∷ []) []) → h + 1 < length (rows P)
+    by : (t : Truth) → has_index P h ≡ t → i < length (cond t ((h + 1) ∷ (h + 2) ∷ (h + 3) ∷ []) [])
+        → h + 1 < length (rows P)
     by true e k = row_inside (rows P) (h + 1) is_carried refl e
     by false e k = absurd (omega (arith, k))
 
@@ -257,13 +273,21 @@ next_inside : (P : Checked) (m : ℕ) (x k o v : ℕ) → node P m ≡ Next x k 
 next_inside P m x k o v e = stands_inside P m (Next x k o v) e (λ bad. cc)
 
 -- the label of the variable of a `next` is a row
-pub label_inside : (P : Checked) (m x k o v : ℕ) → node P m ≡ Next x k o v → (block P m + 1 + k < length (rows P)) × (node P (block P m + 1 + k) ≡ Variable)
+pub label_inside : (P : Checked) (m x k o v : ℕ) → node P m ≡ Next x k o v
+    → (block P m + 1 + k < length (rows P)) × (node P (block P m + 1 + k) ≡ Variable)
 label_inside P m x k o v e =
-    let z = (table_of P).next_in m (block P m) k x (record { outer = o; value = v; within = next_inside P m x k o v e; block = refl; node = e }) in
+    let z = (table_of P).next_in m (block P m) k x (record {
+      outer = o;
+      value = v;
+      within = next_inside P m x k o v e;
+      block = refl;
+      node = e;
+    }) in
     let is = z.2.variable in
     elim (cases_lt (block P m + 1 + k) (length (rows P))) [
       | inl l ↦ (l, is)
-      | inr l ↦ (let bad : Variable ≡ Head = sym is ∙ ap (λ (r : Row). r.node) (get_or-eq_default (rows P) no_row l) in cc)
+      | inr l ↦ (let bad : Variable ≡ Head = sym is ∙ ap (λ (r : Row). r.node) (get_or-eq_default (rows P) no_row l) in
+          cc)
     ]
 
 -- what a loop carries on beside its variables are no more than three
@@ -279,7 +303,8 @@ pub head_inside : (P : Checked) (h : ℕ) → is_loop_head (node P h) ≡ true �
 head_inside P h e = row_inside (rows P) h is_loop_head refl e
 
 -- the switches that a row names are a row
-pub switches_inside : (P : Checked) (n : ℕ) (m : Node) → 0 < length (rows P) → node P n ≡ m → switches_at m < length (rows P)
+pub switches_inside : (P : Checked) (n : ℕ) (m : Node) → 0 < length (rows P) → node P n ≡ m
+    → switches_at m < length (rows P)
 switches_inside P n (Loop h w l) some e = elim (cases_lt n (length (rows P))) [
   | inl k ↦
       let z = ((table_of P).formed.each n k).parts w (subst (λ m. HasPart m w) (sym e) (inr (inl refl))) in
@@ -294,7 +319,8 @@ switches_few P h = elim (cases_lt 0 (length (rows P))) [
   | inl k ↦ let l = switches_inside P (end_of P h) (node P (end_of P h)) k refl in omega (arith, l)
   | inr k ↦
       let past : length (rows P) ≤ end_of P h = omega (arith, k) in
-      let none : switches_at (node P (end_of P h)) ≡ 0 = ap (λ (r : Row). switches_at r.node) (get_or-eq_default (rows P) no_row past) in
+      let none : switches_at (node P (end_of P h)) ≡ 0 =
+      ap (λ (r : Row). switches_at r.node) (get_or-eq_default (rows P) no_row past) in
       omega (arith, none)
 ]
 
@@ -328,7 +354,8 @@ drop_front xs ys n e = ap (λ k. drop k (xs ++ ys)) e ∙ go xs
 
 -- the second of three lists, by the lengths of the others
 pub middle_is : (first : ℕ) (bs ns is xs ys : List ℕ) → xs ≡ bs ++ (ns ++ is) → ys ≡ is → first ≡ length bs
-    → (length ys ≤ length xs) × (first ≤ length xs - length ys) × (take (length xs - length ys - first) (drop first xs) ≡ ns)
+    → (length ys ≤ length xs) × (first ≤ length xs - length ys)
+    × (take (length xs - length ys - first) (drop first xs) ≡ ns)
 middle_is first bs ns is xs ys all inner e =
     let whole : length xs ≡ length bs + (length ns + length is) =
     ap length all ∙ length-append bs (ns ++ is) ∙ ap (λ k. length bs + k) (length-append ns is) in
@@ -336,7 +363,8 @@ middle_is first bs ns is xs ys all inner e =
     let count : length xs - length ys - first ≡ length ns = omega (arith, whole, last, e) in (
       omega (arith, whole, last),
       omega (arith, whole, last, e),
-      ap (take (length xs - length ys - first)) (ap (drop first) all ∙ drop_front bs (ns ++ is) first e) ∙ take_front ns is _ count,
+      ap (take (length xs - length ys - first)) (ap (drop first) all ∙ drop_front bs (ns ++ is) first e)
+          ∙ take_front ns is _ count,
     )
 
 -- how many bounds a loop hands on

@@ -1,5 +1,6 @@
 -- Which regions see a binder, and where its value comes from there.
-use Rattle.std.proofs.Common.{◌≡◌, ℕ, zero, suc, ◌+◌, ◌<◌, ◌==◌, Bool as Truth, true, false, ◌&&◌, cond, List, [], ◌∷◌, inl, inr, length, get_or, refl}
+use Rattle.std.proofs.Common.{◌≡◌, ℕ, zero, suc, ◌+◌, ◌<◌, ◌==◌, Bool as Truth, true, false, ◌&&◌, cond, List, [], ◌∷◌}
+use Rattle.std.proofs.Common.{inl, inr, length, get_or, refl}
 use Rattle.std.proofs.Common.{sym, ◌∙◌, ap, subst, arith}
 use Rattle.std.specs.Bool.{beq}
 use Rattle.std.proofs.lemmas.Bool.{eqb-true}
@@ -18,12 +19,13 @@ pub data HasSwitches (P : Checked) (n t : ℕ) : Type 0 where
   of_arms : node P n ≡ Split t → HasSwitches P n t
   of_turns : node P n ≡ Switches t → HasSwitches P n t
 
--- the region sees what is bound at the row b: it has what its label gives right in the region, or switches hand it into the region, and
+-- the region sees what is bound at the row b: it has what its label gives right in the region, or switches hand it into
+-- the region, and
 -- see it where they stand themselves, or a loop takes it in, and its `Start` sees it
 pub data Sees (P : Checked) (b : ℕ) : Region → Type 0 where
   own : {r : Region} → region P (home P b) ≡ r → Sees P b r
-  handed : {n t : ℕ} {c : Truth} → n < length (rows P) → HasSwitches P n t → Among b (imports_of P n) → Sees P b (region P n)
-      → Sees P b (arm_at n c)
+  handed : {n t : ℕ} {c : Truth} → n < length (rows P) → HasSwitches P n t → Among b (imports_of P n)
+      → Sees P b (region P n) → Sees P b (arm_at n c)
   entered : {h s : ℕ} → h < length (rows P) → node P h ≡ LoopHead s → Among b (imports_of P h) → Sees P b (region P s)
       → Sees P b (top h)
 
@@ -68,7 +70,8 @@ pub record SlotOf (bs : List ℕ) (b : ℕ) : Type 0 where
 
 -- so it is where the first one is b, or is not
 abbrev SlotIs : ℕ → List ℕ → ℕ → Truth → Type 0
-SlotIs x xs b t = (cond t 0 (slot_of xs b + 1) < length (x ∷ xs)) × (get_or (x ∷ xs) (cond t 0 (slot_of xs b + 1)) 0 ≡ b)
+SlotIs x xs b t =
+    (cond t 0 (slot_of xs b + 1) < length (x ∷ xs)) × (get_or (x ∷ xs) (cond t 0 (slot_of xs b + 1)) 0 ≡ b)
 
 pub slot_found : (bs : List ℕ) (b : ℕ) → Among b bs → SlotOf bs b
 slot_found [] b h = absurd h
@@ -81,7 +84,8 @@ slot_found (x ∷ xs) b h = go (x == b) refl (λ k. slot_found xs b k)
     ]
 
     differs : (x == b) ≡ false → x ≡ b → ⊥
-    differs e is = let same : (x == b) ≡ true = grind (arith, nat_tests, is) in let bad : true ≡ false = sym same ∙ e in cc
+    differs e is =
+        let same : (x == b) ≡ true = grind (arith, nat_tests, is) in let bad : true ≡ false = sym same ∙ e in cc
 
     at : (t : Truth) → (x == b) ≡ t → (Among b xs → SlotOf xs b) → SlotIs x xs b t
     at true e more = (omega arith, eqb-true x b e)
@@ -121,10 +125,12 @@ switched P n t b c (of_turns is) =
 
 pub comes : (P : Checked) (r : Region) (b : ℕ) → Sees P b r → Comes P r b
 comes P r b (own is) = from_label is (named P r b is)
-comes P r b (handed {n = n} {t = t} {c = c} within is among rest) = go (same_region (region P (home P b)) (arm_at n c)) refl
+comes P r b (handed {n = n} {t = t} {c = c} within is among rest) =
+    go (same_region (region P (home P b)) (arm_at n c)) refl
   where
     go : (u : Truth) → same_region (region P (home P b)) (arm_at n c) ≡ u → Comes P (arm_at n c) b
-    go true e = let here = region_is (region P (home P b)) (arm_at n c) e in from_label here (named P (arm_at n c) b here)
+    go true e =
+        let here = region_is (region P (home P b)) (arm_at n c) e in from_label here (named P (arm_at n c) b here)
     go false e =
         let slot = slot_found (imports_of P n) b among in
         from_switch n t (slot_of (imports_of P n) b) c within is slot.less slot.there rest refl

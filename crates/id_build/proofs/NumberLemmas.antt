@@ -19,10 +19,12 @@ pub in_either : {A : Type 0} (xs ys : List A) (j : ℕ) (x : A) → slice_get (x
     (slice_get xs j ≡ Some x) ⊎ ((i : ℕ) × (j ≡ length xs + i) × (slice_get ys i ≡ Some x))
 in_either [] ys j x h = inr (j, omega arith, h)
 in_either (y ∷ xs) ys zero x h = inl h
-in_either (y ∷ xs) ys (suc j) x h = elim (in_either xs ys j x h) [ inl i ↦ inl i | inr i ↦ inr (i.0, omega (arith, i.1), i.2) ]
+in_either (y ∷ xs) ys (suc j) x h =
+    elim (in_either xs ys j x h) [ inl i ↦ inl i | inr i ↦ inr (i.0, omega (arith, i.1), i.2) ]
 
 -- an instruction of one of the rows stands at its number
-pub pieces_in-at : (P : Checked) (order : List ℕ) (m n k : ℕ) (p : Piece) → Among n order → slice_get (made P n) k ≡ Some p →
+pub pieces_in-at : (P : Checked) (order : List ℕ) (m n k : ℕ) (p : Piece) → Among n order
+    → slice_get (made P n) k ≡ Some p →
     (j : ℕ) × (first_in P m order n + k ≡ m + j) × (slice_get (pieces_in P order) j ≡ Some p)
 pieces_in-at P [] m n k p h i = absurd h
 pieces_in-at P (x ∷ xs) m n k p h i = at (eqb x n) refl (λ g. pieces_in-at P xs (m + count P x) n k p g i)
@@ -45,12 +47,14 @@ pub record StandsIn (P : Checked) (order : List ℕ) (m j : ℕ) (p : Piece) : T
   pub makes : slice_get (made P n) k ≡ Some p
   pub is : first_in P m order n + k ≡ m + j
 
-pub pieces_in-from : (P : Checked) (order : List ℕ) (m j : ℕ) (p : Piece) → AllDiffer order → slice_get (pieces_in P order) j ≡ Some p → StandsIn P order m j p
+pub pieces_in-from : (P : Checked) (order : List ℕ) (m j : ℕ) (p : Piece) → AllDiffer order
+    → slice_get (pieces_in P order) j ≡ Some p → StandsIn P order m j p
 pieces_in-from P [] m j p d h = cc
 pieces_in-from P (x ∷ xs) m j p d h =
     elim (in_either (made P x) (pieces_in P xs) j p h) [
       | inl i ↦ (
-          let here : first_in P m (x ∷ xs) x ≡ m = ap (λ t. cond t m (first_in P (m + count P x) xs x)) (eq-eqb x x refl) in
+          let here : first_in P m (x ∷ xs) x ≡ m =
+          ap (λ t. cond t m (first_in P (m + count P x) xs x)) (eq-eqb x x refl) in
           record { n = x; k = j; among = inl refl; makes = i; is = omega (arith, here) }
           )
       | inr i ↦ (
@@ -58,7 +62,14 @@ pieces_in-from P (x ∷ xs) m j p d h =
           let A : ℕ → Type 0 = λ z. Among z xs in
           let ne : x ≢ rest.n = λ e. d.0 (subst A (sym e) rest.among) in
           let other = other_first x rest.n ne m (first_in P (m + count P x) xs rest.n) in
-          record { n = rest.n; k = rest.k; among = inr rest.among; makes = rest.makes; is = omega (arith, rest.is, other, i.1) }
+          record {
+            n = rest.n;
+            k = rest.k;
+            among = inr rest.among;
+            makes = rest.makes;
+            is =
+                omega (arith, rest.is, other, i.1);
+          }
           )
     ]
   where
@@ -69,16 +80,19 @@ first-least : (P : Checked) (order : List ℕ) (m n : ℕ) → Among n order →
 first-least P [] m n h = absurd h
 first-least P (x ∷ xs) m n h = at (eqb x n) refl (first-least P xs (m + count P x) n)
   where
-    at : (t : Bool) → eqb x n ≡ t → (Among n xs → m + count P x ≤ first_in P (m + count P x) xs n) → m ≤ cond t m (first_in P (m + count P x) xs n)
+    at : (t : Bool) → eqb x n ≡ t → (Among n xs → m + count P x ≤ first_in P (m + count P x) xs n)
+        → m ≤ cond t m (first_in P (m + count P x) xs n)
     at true e f = omega arith
-    at false e f = let rest = f (elim h [ inl j ↦ absurd (let is = eq-eqb x n (sym j) in cc) | inr j ↦ j ]) in omega arith
+    at false e f =
+        let rest = f (elim h [ inl j ↦ absurd (let is = eq-eqb x n (sym j) in cc) | inr j ↦ j ]) in omega arith
 
 later : (x n : ℕ) (xs : List ℕ) → eqb x n ≡ false → Among n (x ∷ xs) → Among n xs
 later x n xs e (inl j) = absurd (let is = eq-eqb x n (sym j) in cc)
 later x n xs e (inr j) = j
 
 -- two instructions have two numbers
-pub first_in-apart : (P : Checked) (order : List ℕ) (m n k n' k' : ℕ) → Among n order → Among n' order → k < count P n → k' < count P n' →
+pub first_in-apart : (P : Checked) (order : List ℕ) (m n k n' k' : ℕ) → Among n order → Among n' order → k < count P n
+    → k' < count P n' →
     first_in P m order n + k ≡ first_in P m order n' + k' → (n ≡ n') × (k ≡ k')
 first_in-apart P [] m n k n' k' h h' l l' e = absurd h
 first_in-apart P (x ∷ xs) m n k n' k' h h' l l' e =
@@ -86,7 +100,8 @@ first_in-apart P (x ∷ xs) m n k n' k' h h' l l' e =
   where
     at : (t t' : Bool) → eqb x n ≡ t → eqb x n' ≡ t' → (Among n xs → Among n' xs →
         first_in P (m + count P x) xs n + k ≡ first_in P (m + count P x) xs n' + k' → (n ≡ n') × (k ≡ k')) →
-        cond t m (first_in P (m + count P x) xs n) + k ≡ cond t' m (first_in P (m + count P x) xs n') + k' → (n ≡ n') × (k ≡ k')
+        cond t m (first_in P (m + count P x) xs n) + k ≡ cond t' m (first_in P (m + count P x) xs n') + k'
+        → (n ≡ n') × (k ≡ k')
     at true true i i' f g = (sym (eqb-true x n i) ∙ eqb-true x n' i', omega arith)
     at true false i i' f g =
         let least = first-least P xs (m + count P x) n' (later x n' xs i' h') in
@@ -107,7 +122,8 @@ first_in-push P (x ∷ xs) m y n d =
   where
     at : (t u : Bool) → eqb x n ≡ t → eqb y n ≡ u → first_in P (m + count P x) (xs ++ y ∷ []) n ≡
         cond u (m + count P x + length (pieces_in P xs)) (first_in P (m + count P x) xs n) →
-        cond t m (first_in P (m + count P x) (xs ++ y ∷ []) n) ≡ cond u (m + length (made P x ++ pieces_in P xs)) (cond t m (first_in P (m + count P x) xs n))
+        cond t m (first_in P (m + count P x) (xs ++ y ∷ []) n)
+        ≡ cond u (m + length (made P x ++ pieces_in P xs)) (cond t m (first_in P (m + count P x) xs n))
     at true true i j e = absurd (d (inl (eqb-true y n j ∙ sym (eqb-true x n i))))
     at true false i j e = refl
     at false true i j e = omega (arith, e, length-append (made P x) (pieces_in P xs))
@@ -115,4 +131,5 @@ first_in-push P (x ∷ xs) m y n d =
 
 pub pieces_in-push : (P : Checked) (xs : List ℕ) (y : ℕ) → pieces_in P (xs ++ y ∷ []) ≡ pieces_in P xs ++ made P y
 pieces_in-push P [] y = append-nil (made P y)
-pieces_in-push P (x ∷ xs) y = ap (λ l. made P x ++ l) (pieces_in-push P xs y) ∙ sym (append_assoc (made P x) (pieces_in P xs) (made P y))
+pieces_in-push P (x ∷ xs) y =
+    ap (λ l. made P x ++ l) (pieces_in-push P xs y) ∙ sym (append_assoc (made P x) (pieces_in P xs) (made P y))

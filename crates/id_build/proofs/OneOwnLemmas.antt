@@ -18,4 +18,5 @@ one_firsts P order F E f e = ext_get_or 0 F E (f.many ∙ sym e.many) (λ n l.
 
 pub one_own : (P : Checked) (G H : Parts) → IsOwn P G → IsOwn P H → G ≡ H
 one_own P G H g h =
-    g.is ∙ ap (graph_by P (order_of P)) (one_firsts P (order_of P) g.firsts h.firsts g.are_firsts h.are_firsts) ∙ sym h.is
+    g.is ∙ ap (graph_by P (order_of P)) (one_firsts P (order_of P) g.firsts h.firsts g.are_firsts h.are_firsts)
+    ∙ sym h.is

@@ -1,5 +1,6 @@
 -- The order in which rows are made has each row once, the answer's first.
-use Rattle.std.proofs.Common.{◌≡◌, ◌⊎◌, inl, inr, ℕ, zero, suc, ◌+◌, ◌<◌, Bool, true, false, List, [], ◌∷◌, ◌++◌, length, cond}
+use Rattle.std.proofs.Common.{◌≡◌, ◌⊎◌, inl, inr, ℕ, zero, suc, ◌+◌, ◌<◌, Bool, true, false, List, [], ◌∷◌, ◌++◌}
+use Rattle.std.proofs.Common.{length, cond}
 use Rattle.std.proofs.Common.{refl, ap, sym, subst, ◌∙◌, arith, eq-eqb, length-append}
 use Rattle.std.specs.Prelude.{not, ◌==◌}
 use Rattle.std.proofs.lemmas.Bool.{cases_lt, eqb-true, false≢true}
@@ -11,7 +12,8 @@ use Rattle.id_table.specs.Rows.{at}
 use Rattle.id_check.specs.declared.checked.Checked.{Checked}
 use Rattle.id_check.specs.Programs.{rows}
 use Rattle.id_check.proofs.ProgramsLemmas.{table_of}
-use Rattle.id_desugar.specs.Regions.{has, in_block, in_procedure, is_loop_head, loop_heads, loops_by, order_by, order_of, those}
+use Rattle.id_desugar.specs.Regions.{has, in_block, in_procedure, is_loop_head, loop_heads, loops_by, order_by}
+use Rattle.id_desugar.specs.Regions.{order_of, those}
 use Rattle.id_desugar.proofs.HeadsLemmas.{loop_heads-differ, loop_heads-has, loop_heads-is}
 use Rattle.id_build.specs.Made.{first_in, pieces_in}
 use Rattle.id_build.specs.Rows.{answer_row, block, made, node, size, size_below}
@@ -30,7 +32,8 @@ those-is : (f : ℕ → Bool) (n k : ℕ) → Among k (those f n) → (k < n) ×
 those-is f zero k h = absurd h
 those-is f (suc n) k h = go (f n) refl h (those-is f n k)
   where
-    go : (t : Bool) → f n ≡ t → Among k (cond t (those f n ++ n ∷ []) (those f n)) → (Among k (those f n) → (k < n) × (f k ≡ true)) → (k < suc n) × (f k ≡ true)
+    go : (t : Bool) → f n ≡ t → Among k (cond t (those f n ++ n ∷ []) (those f n))
+        → (Among k (those f n) → (k < n) × (f k ≡ true)) → (k < suc n) × (f k ≡ true)
     go true e h rest = elim (Among-either k (those f n) (n ∷ []) h) [
       | inl i ↦ (let z = rest i in (omega (arith, z.0), z.1))
       | inr (inl i) ↦ (omega (arith, i), ap f i ∙ e)
@@ -53,7 +56,8 @@ those-has f (suc n) k l e = go (f n) refl (those-has f n k)
     there g (inl i) rest = rest i e
     there g (inr i) rest = absurd (false≢true (sym g ∙ ap f i ∙ e))
 
-    go : (t : Bool) → f n ≡ t → (k < n → f k ≡ true → Among k (those f n)) → Among k (cond t (those f n ++ n ∷ []) (those f n))
+    go : (t : Bool) → f n ≡ t → (k < n → f k ≡ true → Among k (those f n))
+        → Among k (cond t (those f n ++ n ∷ []) (those f n))
     go true g rest = here which rest
     go false g rest = there g which rest
 
@@ -111,13 +115,15 @@ module _ (P : Checked) where
 
   loops-has : (n : ℕ) (hs : List ℕ) (x : ℕ) → x < n → Among (block P x) hs → Among x (loops_by P n hs)
   loops-has n [] x l h = absurd h
-  loops-has n (g ∷ hs) x l (inl e) = Among-left x (those (in_block P g) n) (loops_by P n hs) (those-has (in_block P g) n x l (in_block-has g x e))
+  loops-has n (g ∷ hs) x l (inl e) =
+      Among-left x (those (in_block P g) n) (loops_by P n hs) (those-has (in_block P g) n x l (in_block-has g x e))
   loops-has n (g ∷ hs) x l (inr h) = Among-right x (those (in_block P g) n) (loops_by P n hs) (loops-has n hs x l h)
 
   loops-differ : (n : ℕ) (hs : List ℕ) → AllDiffer hs → AllDiffer (loops_by P n hs)
   loops-differ n [] d = tt
   loops-differ n (g ∷ hs) d =
-      AllDiffer-append (those (in_block P g) n) (loops_by P n hs) (those-differ (in_block P g) n) (loops-differ n hs d.1)
+      AllDiffer-append (those (in_block P g) n) (loops_by P n hs) (those-differ (in_block P g) n)
+      (loops-differ n hs d.1)
       (λ x i j. (
       let is = in_block-is g x (those-is (in_block P g) n x i).1 in
       d.0 (subst (λ z. Among z hs) is (loops-is n hs x j).1)))
@@ -139,7 +145,9 @@ module _ (P : Checked) where
       go true e =
           Among-right x (those (in_procedure P) n) (loops_by P n (loop_heads P))
           (loops-has n (loop_heads P) x l (loop_heads-has P (block P x) b e))
-      go false e = Among-left x (those (in_procedure P) n) (loops_by P n (loop_heads P)) (those-has (in_procedure P) n x l (ap not e))
+      go false e =
+          Among-left x (those (in_procedure P) n) (loops_by P n (loop_heads P))
+          (those-has (in_procedure P) n x l (ap not e))
 
   inner-differ : (n : ℕ) → AllDiffer (inner n)
   inner-differ n =
@@ -154,10 +162,15 @@ module _ (P : Checked) where
   IsOrder-by n e = record {
     differ = (λ h. (let l = inner-within n n h in absurd (omega (arith, l))), inner-differ n);
     covers = λ k l. elim (cases_lt k n) [
-      | inl i ↦ (let b = ((table_of P).block k (omega (arith, i, e))).0 in inr (inner-has n k i (omega (arith, b, i, e))))
+      | inl i ↦ (let b = ((table_of P).block k (omega (arith, i, e))).0 in
+          inr (inner-has n k i (omega (arith, b, i, e))))
       | inr i ↦ inl (omega (arith, e, l, i))
     ];
-    within = λ k h. elim h [ inl i ↦ omega (arith, e, i) | inr i ↦ (let l = inner-within n k i in omega (arith, e, l)) ];
+    within = λ k h. elim h [
+      | inl i ↦ omega (arith, e, i)
+      | inr i ↦ (let l = inner-within n k i in
+          omega (arith, e, l))
+    ];
     answer_within = omega (arith, e);
     answer_first = (let is : n ≡ answer_row P = omega (arith, e) in
         ap (λ t. cond t 0 (first_in P (0 + length (made P n)) (inner n) (answer_row P))) (eq-eqb n (answer_row P) is));
@@ -199,7 +212,8 @@ module _ (P : Checked) where
       go false = omega arith
 
   -- a row is counted in the blocks with these heads where its own is one of them
-  loops-next : (n : ℕ) (hs : List ℕ) → AllDiffer hs → counted (loops_by P (suc n) hs) ≡ counted (loops_by P n hs) + if_so (has hs (block P n)) n
+  loops-next : (n : ℕ) (hs : List ℕ) → AllDiffer hs
+      → counted (loops_by P (suc n) hs) ≡ counted (loops_by P n hs) + if_so (has hs (block P n)) n
   loops-next n [] d = refl
   loops-next n (g ∷ hs) d =
       omega (
@@ -212,7 +226,8 @@ module _ (P : Checked) where
       )
     where
       -- exactly one of the two is so, or none
-      split : (t : Bool) → (g == block P n) ≡ t → if_so (in_block P g n) n + if_so (has hs (block P n)) n ≡ if_so (cond t true (has hs (block P n))) n
+      split : (t : Bool) → (g == block P n) ≡ t
+          → if_so (in_block P g n) n + if_so (has hs (block P n)) n ≡ if_so (cond t true (has hs (block P n))) n
       split true e =
           let same : g ≡ block P n = eqb-true g (block P n) e in
           let yes = in_block-has P g n (sym same) in
@@ -231,7 +246,8 @@ module _ (P : Checked) where
       go false e = has_not (loop_heads P) h (λ i. false≢true (sym e ∙ (loop_heads-is P h i).1))
 
   -- a row is in the block of a procedure, or in that of a loop
-  one_of : (m : ℕ) → block P m < length (rows P) → if_so (in_procedure P m) m + if_so (has (loop_heads P) (block P m)) m ≡ length (made P m)
+  one_of : (m : ℕ) → block P m < length (rows P)
+      → if_so (in_procedure P m) m + if_so (has (loop_heads P) (block P m)) m ≡ length (made P m)
   one_of m l = omega (arith, ap (λ t. if_so t m) (has_heads (block P m) l), go (is_loop_head (node P (block P m))))
     where
       go : (t : Bool) → if_so (not t) m + if_so t m ≡ length (made P m)
@@ -248,7 +264,13 @@ module _ (P : Checked) where
       no_loops (g ∷ hs) = no_loops hs
   sum-below (suc m) low =
       let rest = sum-below m (λ i l. low i (omega (arith, l))) in
-      omega (arith, rest, those-next (in_procedure P) m, loops-next m (loop_heads P) (loop_heads-differ P), one_of m (low m (omega arith)))
+      omega (
+        arith,
+        rest,
+        those-next (in_procedure P) m,
+        loops-next m (loop_heads P) (loop_heads-differ P),
+        one_of m (low m (omega arith)),
+      )
 
   order-count : (n : ℕ) → n ≡ length (rows P) → counted (order_by P n) ≡ size_below P n
   order-count zero e = refl

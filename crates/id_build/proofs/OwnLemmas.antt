@@ -19,7 +19,8 @@ use Rattle.id_build.proofs.SchemasLemmas.{Numbered-graph_by}
 -- a row that is not in the order has no number
 first_in-none : (P : Checked) (order : List ℕ) (m n : ℕ) → (Among n order → ⊥) → first_in P m order n ≡ 0
 first_in-none P [] m n never = refl
-first_in-none P (x ∷ xs) m n never = at (eqb x n) refl (first_in-none P xs (m + length (made P x)) n (λ h. never (inr h)))
+first_in-none P (x ∷ xs) m n never =
+    at (eqb x n) refl (first_in-none P xs (m + length (made P x)) n (λ h. never (inr h)))
   where
     at : (t : Bool) → eqb x n ≡ t → first_in P (m + length (made P x)) xs n ≡ 0
         → cond t m (first_in P (m + length (made P x)) xs n) ≡ 0

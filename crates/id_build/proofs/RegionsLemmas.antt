@@ -1,5 +1,6 @@
 -- Which rows stand in the regions of loops and arms, and how regions lie in one another.
-use Rattle.std.proofs.Common.{◌≡◌, ◌⊎◌, inl, inr, ℕ, ◌+◌, ◌-◌, ◌≤◌, ◌<◌, Bool as Truth, true, false, length, refl, sym, ◌∙◌, ap, subst, arith}
+use Rattle.std.proofs.Common.{◌≡◌, ◌⊎◌, inl, inr, ℕ, ◌+◌, ◌-◌, ◌≤◌, ◌<◌, Bool as Truth, true, false, length, refl, sym}
+use Rattle.std.proofs.Common.{◌∙◌, ap, subst, arith}
 use Rattle.std.proofs.lemmas.Bool.{cases_lt, false≢true}
 use Rattle.id_table.specs.declared.row.Region.{Region}
 use Rattle.id_table.specs.declared.row.Node.{Node}
@@ -46,11 +47,13 @@ module _ (P : Checked) where
   pub T : IsTable (rows P)
   T = table_of P
 
-  pub inner : (i : ℕ) (f : Node → Truth) → f Program ≡ false → i < length (rows P) → f (node P i) ≡ true → i + 1 < length (rows P)
+  pub inner : (i : ℕ) (f : Node → Truth) → f Program ≡ false → i < length (rows P) → f (node P i) ≡ true
+      → i + 1 < length (rows P)
   inner i f none within is = not_last P T i within (λ e. false≢true (sym none ∙ ap f (sym e) ∙ is))
 
   -- a row of another node is not the `Span` of a loop
-  pub not_span : (n h w l i : ℕ) → IsLoop (rows P) n h w l → (f : Node → Truth) → f Span ≡ false → i < n → f (node P i) ≡ true → i + 1 < n
+  pub not_span : (n h w l i : ℕ) → IsLoop (rows P) n h w l → (f : Node → Truth) → f Span ≡ false → i < n
+      → f (node P i) ≡ true → i + 1 < n
   not_span n h w l i x f none low is = elim (cases_lt (i + 1) n) [
     | inl k ↦ k
     | inr k ↦
@@ -74,7 +77,8 @@ module _ (P : Checked) where
         ap (region P) (sym same) ∙ (x.start_of).beside.region
 
     pub loop_inner : end_of P h + 1 < length (rows P)
-    loop_inner = inner (end_of P h) is_loop refl (the_loop P h s within is).within (ap is_loop (the_loop P h s within is).node)
+    loop_inner =
+        inner (end_of P h) is_loop refl (the_loop P h s within is).within (ap is_loop (the_loop P h s within is).node)
 
   -- ---- the heads of regions
 
@@ -132,25 +136,33 @@ module _ (P : Checked) where
 
   -- ---- what a region lies in
 
-  pub step_arm : {q : Region} (s t : ℕ) (c : Truth) → node P s ≡ Split t → Lies (rows P) q (arm_at s c) → (q ≡ arm_at s c) ⊎ Lies (rows P) q (region P s)
+  pub step_arm : {q : Region} (s t : ℕ) (c : Truth) → node P s ≡ Split t → Lies (rows P) q (arm_at s c)
+      → (q ≡ arm_at s c) ⊎ Lies (rows P) q (region P s)
   step_arm {q} s t c is l = go l refl
     where
       go : {r : Region} → Lies (rows P) q r → r ≡ arm_at s c → (q ≡ arm_at s c) ⊎ Lies (rows P) q (region P s)
       go here e = inl e
       go (in_arm {s = u} w k m) e = inr (subst (λ z. Lies (rows P) q (region P z)) (ap (λ (z : Region). z.head) e) m)
-      go (in_loop {h = u} w k m) e = absurd (false≢true (sym (ap is_split k) ∙ ap (λ (z : Region). is_split (node P z.head)) e ∙ ap is_split is))
-      go (in_side {w = u} w k m) e = absurd (false≢true (sym (ap is_switches is) ∙ ap (λ (z : Region). is_switches (node P z.head)) (sym e) ∙ k))
+      go (in_loop {h = u} w k m) e =
+          absurd (false≢true (sym (ap is_split k) ∙ ap (λ (z : Region). is_split (node P z.head)) e ∙ ap is_split is))
+      go (in_side {w = u} w k m) e =
+          absurd (false≢true (sym (ap is_switches is) ∙ ap (λ (z : Region). is_switches (node P z.head)) (sym e) ∙ k))
 
-  pub step_side : {q : Region} (s t : ℕ) (c : Truth) → node P s ≡ Switches t → Lies (rows P) q (arm_at s c) → (q ≡ arm_at s c) ⊎ Lies (rows P) q (region P s)
+  pub step_side : {q : Region} (s t : ℕ) (c : Truth) → node P s ≡ Switches t → Lies (rows P) q (arm_at s c)
+      → (q ≡ arm_at s c) ⊎ Lies (rows P) q (region P s)
   step_side {q} s t c is l = go l refl
     where
       go : {r : Region} → Lies (rows P) q r → r ≡ arm_at s c → (q ≡ arm_at s c) ⊎ Lies (rows P) q (region P s)
       go here e = inl e
       go (in_side {w = u} w k m) e = inr (subst (λ z. Lies (rows P) q (region P z)) (ap (λ (z : Region). z.head) e) m)
-      go (in_loop {h = u} w k m) e = absurd (false≢true (sym (ap is_switches k) ∙ ap (λ (z : Region). is_switches (node P z.head)) e ∙ ap is_switches is))
-      go (in_arm {s = u} w k m) e = absurd (false≢true (sym (ap is_split is) ∙ ap (λ (z : Region). is_split (node P z.head)) (sym e) ∙ k))
+      go (in_loop {h = u} w k m) e =
+          absurd (false≢true (sym (ap is_switches k) ∙ ap (λ (z : Region). is_switches (node P z.head)) e
+          ∙ ap is_switches is))
+      go (in_arm {s = u} w k m) e =
+          absurd (false≢true (sym (ap is_split is) ∙ ap (λ (z : Region). is_split (node P z.head)) (sym e) ∙ k))
 
-  pub step_top : {q : Region} (h s : ℕ) → node P h ≡ LoopHead s → Lies (rows P) q (top h) → (q ≡ top h) ⊎ Lies (rows P) q (region P s)
+  pub step_top : {q : Region} (h s : ℕ) → node P h ≡ LoopHead s → Lies (rows P) q (top h)
+      → (q ≡ top h) ⊎ Lies (rows P) q (region P s)
   step_top {q} h s is l = go l refl
     where
       go : {r : Region} → Lies (rows P) q r → r ≡ top h → (q ≡ top h) ⊎ Lies (rows P) q (region P s)
@@ -158,8 +170,10 @@ module _ (P : Checked) where
       go (in_loop {h = u} {s = v} w k m) e =
           let same : v ≡ s = ap start_or (sym k ∙ ap (λ (z : Region). node P z.head) e ∙ is) in
           inr (subst (λ z. Lies (rows P) q (region P z)) same m)
-      go (in_arm {s = u} w k m) e = absurd (false≢true (sym (ap is_split is) ∙ ap (λ (z : Region). is_split (node P z.head)) (sym e) ∙ k))
-      go (in_side {w = u} w k m) e = absurd (false≢true (sym (ap is_switches is) ∙ ap (λ (z : Region). is_switches (node P z.head)) (sym e) ∙ k))
+      go (in_arm {s = u} w k m) e =
+          absurd (false≢true (sym (ap is_split is) ∙ ap (λ (z : Region). is_split (node P z.head)) (sym e) ∙ k))
+      go (in_side {w = u} w k m) e =
+          absurd (false≢true (sym (ap is_switches is) ∙ ap (λ (z : Region). is_switches (node P z.head)) (sym e) ∙ k))
 
   -- ---- the rows of a loop's region
 
@@ -176,18 +190,21 @@ module _ (P : Checked) where
         ∙ ap is_split (T.split_of k.row k.split k.conditional).node))
     | inr (inr k) ↦
         let z : k.loop.switches ≡ g = ap (λ (r : Region). r.head) (sym k.region ∙ e) in
-        absurd (false≢true (sym (ap is_switches (T.loop_is m g c).before_test.head) ∙ ap (λ j. is_switches (node P j)) (sym z)
+        absurd (false≢true (sym (ap is_switches (T.loop_is m g c).before_test.head)
+        ∙ ap (λ j. is_switches (node P j)) (sym z)
         ∙ ap is_switches (T.loop_is k.row (block P i) k.loop).test.node))
   ]
 
-  pub side_rows : (u t i : ℕ) (a : Truth) → node P u ≡ Switches t → i + 1 < length (rows P) → region P i ≡ arm_at u a → i < end_of P (block P u)
+  pub side_rows : (u t i : ℕ) (a : Truth) → node P u ≡ Switches t → i + 1 < length (rows P) → region P i ≡ arm_at u a
+      → i < end_of P (block P u)
   side_rows u t i a is l e = elim (T.region i l) [
     | inl k ↦
         let same : block P i ≡ u = ap (λ (r : Region). r.head) (sym k ∙ e) in
         absurd (false≢true (sym (ap begins_block is) ∙ ap (λ j. begins_block (node P j)) (sym same) ∙ (T.block i l).1))
     | inr (inl k) ↦
         let z : k.split ≡ u = ap (λ (r : Region). r.head) (sym k.region ∙ e) in
-        absurd (false≢true (sym (ap is_split is) ∙ ap (λ j. is_split (node P j)) (sym z) ∙ ap is_split (T.split_of k.row k.split k.conditional).node))
+        absurd (false≢true (sym (ap is_split is) ∙ ap (λ j. is_split (node P j)) (sym z)
+        ∙ ap is_split (T.split_of k.row k.split k.conditional).node))
     | inr (inr k) ↦
         let z : k.loop.switches ≡ u = ap (λ (r : Region). r.head) (sym k.region ∙ e) in
         let x = T.loop_is k.row (block P i) k.loop in
@@ -215,13 +232,15 @@ module _ (P : Checked) where
   -- a row whose region lies in that of a loop stands before the loop's end
   module _ (h s : ℕ) (within : h < length (rows P)) (is : node P h ≡ LoopHead s) where
     mutual
-      rows_below : {r : Region} → Lies (rows P) (top h) r → (i : ℕ) → i + 1 < length (rows P) → region P i ≡ r → i < end_of P h
+      rows_below : {r : Region} → Lies (rows P) (top h) r → (i : ℕ) → i + 1 < length (rows P) → region P i ≡ r
+          → i < end_of P h
       rows_below here i l e = top_rows h (end_of P h) i (the_loop P h s within is) l e
       rows_below (in_arm {s = u} {b = a} w k m) i l e =
           let z = split_is (node P u) k in
           let d = if_is P T u z.0 w z.1 in
           let low = InArm-within (rows P) T (end_of P u) u i a d (InArm-region (rows P) T (end_of P u) u i a d l e) in
-          let to = rows_below m (end_of P u) (if_not_last (rows P) T (end_of P u) u d) (sym (T.split_of (end_of P u) u d).region) in
+          let to = rows_below m (end_of P u) (if_not_last (rows P) T (end_of P u) u d)
+          (sym (T.split_of (end_of P u) u d).region) in
           omega (arith, low.1, to)
       rows_below (in_loop {h = g} {s = u} w k m) i l e =
           let low = top_rows g (end_of P g) i (the_loop P g u w k) l e in
@@ -235,13 +254,16 @@ module _ (P : Checked) where
           omega (arith, low, to)
 
       -- and a loop whose region lies there ends no later
-      loops_below : {r : Region} → Lies (rows P) (top h) r → (g v : ℕ) → g < length (rows P) → node P g ≡ LoopHead v → r ≡ top g → end_of P g ≤ end_of P h
+      loops_below : {r : Region} → Lies (rows P) (top h) r → (g v : ℕ) → g < length (rows P) → node P g ≡ LoopHead v
+          → r ≡ top g → end_of P g ≤ end_of P h
       loops_below here g v low at e =
           let same : h ≡ g = ap (λ (z : Region). z.head) e in
           let ends = ap (end_of P) same in
           omega (arith, ends)
-      loops_below (in_arm {s = u} w k l) g v low at e = absurd (false≢true (sym (ap is_split at) ∙ ap (λ (z : Region). is_split (node P z.head)) (sym e) ∙ k))
-      loops_below (in_side {w = u} w k l) g v low at e = absurd (false≢true (sym (ap is_switches at) ∙ ap (λ (z : Region). is_switches (node P z.head))
+      loops_below (in_arm {s = u} w k l) g v low at e =
+          absurd (false≢true (sym (ap is_split at) ∙ ap (λ (z : Region). is_split (node P z.head)) (sym e) ∙ k))
+      loops_below (in_side {w = u} w k l) g v low at e =
+          absurd (false≢true (sym (ap is_switches at) ∙ ap (λ (z : Region). is_switches (node P z.head))
           (sym e) ∙ k))
       loops_below (in_loop {h = u} {s = y} w k l) g v low at e =
           let same : u ≡ g = ap (λ (z : Region). z.head) e in
@@ -250,7 +272,8 @@ module _ (P : Checked) where
           omega (arith, ends, to)
 
     -- what lies in a loop's region stands behind its head and before its end
-    pub in_rows : (i : ℕ) → i + 1 < length (rows P) → begins_block (node P i) ≡ false → Lies (rows P) (top h) (region P i) → (h < i) × (i < end_of P h)
+    pub in_rows : (i : ℕ) → i + 1 < length (rows P) → begins_block (node P i) ≡ false
+        → Lies (rows P) (top h) (region P i) → (h < i) × (i < end_of P h)
     in_rows i l none m =
         let rise = heads_rise m in
         let low = head_before i l none in
@@ -260,15 +283,16 @@ module _ (P : Checked) where
 
   -- an index stands right in the body of its loop
   module _ (i x : ℕ) (within : i < length (rows P)) (is : node P i ≡ Index x) where
-    pub index_loop : (n : ℕ) × (c : IsLoopOf (rows P) n (block P i)) × ((T.loop_is n (block P i) c).carried ≡ 3) × (index_row c.switches ≡ i)
+    pub index_loop : (n : ℕ) × (c : IsLoopOf (rows P) n (block P i)) × ((T.loop_is n (block P i) c).carried ≡ 3)
+        × (index_row c.switches ≡ i)
     index_loop = T.index_of i x within is
 
     abbrev pub index_rows : IsLoop (rows P) index_loop.0 (block P i) (index_loop.1).switches (index_loop.1).last
     index_rows = T.loop_is index_loop.0 (block P i) index_loop.1
 
     -- no other row of the body can be a region's head before it
-    only_switches : (j : ℕ) → (index_loop.1).switches ≤ j → j < i → (f : Node → Truth) → f Count ≡ false → f Turn ≡ false → f (node P j) ≡ true
-        → j ≡ (index_loop.1).switches
+    only_switches : (j : ℕ) → (index_loop.1).switches ≤ j → j < i → (f : Node → Truth) → f Count ≡ false
+        → f Turn ≡ false → f (node P j) ≡ true → j ≡ (index_loop.1).switches
     only_switches j low high f count turn so =
         let w = (index_loop.1).switches in
         let z = turn_nodes index_rows.body_is.turns index_loop.2 in
@@ -293,13 +317,16 @@ module _ (P : Checked) where
       | inr (inl k) ↦
           let e = ap (λ (r : Region). r.head) k.region in
           let z = (T.split_of k.row k.split k.conditional).node in
-          let at = only_switches k.split (omega (arith, rise, e)) (omega (arith, before, e)) is_split refl refl (ap is_split z) in
+          let at = only_switches k.split (omega (arith, rise, e)) (omega (arith, before, e)) is_split refl refl
+          (ap is_split z) in
           absurd (false≢true (sym (ap is_split (ap (node P) at ∙ index_rows.test.node)) ∙ ap is_split z))
       | inr (inr k) ↦
           let e = ap (λ (r : Region). r.head) k.region in
           let z = (T.loop_is k.row (block P i) k.loop).test.node in
-          let at = only_switches k.loop.switches (omega (arith, rise, e)) (omega (arith, before, e)) is_switches refl refl (ap is_switches z) in
-          k.region ∙ ap (λ w. arm_at w k.side) at ∙ ap (arm_at w) (on k.side k.body k.row at k.body_is.node (body_low k.body_is) k.among)
+          let at = only_switches k.loop.switches (omega (arith, rise, e)) (omega (arith, before, e)) is_switches refl
+          refl (ap is_switches z) in
+          k.region ∙ ap (λ w. arm_at w k.side) at
+          ∙ ap (arm_at w) (on k.side k.body k.row at k.body_is.node (body_low k.body_is) k.among)
     ]
       where
         w : ℕ

@@ -1,5 +1,6 @@
 -- What each row makes, what fits the rest of its table, and where its feeds go: by cases on the row.
-use Rattle.std.proofs.Common.{◌≡◌, inl, inr, ℕ, zero, suc, ◌+◌, ◌-◌, ◌<◌, Bool, true, false, cond, List, [], ◌∷◌, ◌++◌, length, map}
+use Rattle.std.proofs.Common.{◌≡◌, inl, inr, ℕ, zero, suc, ◌+◌, ◌-◌, ◌<◌, Bool, true, false, cond, List, [], ◌∷◌, ◌++◌}
+use Rattle.std.proofs.Common.{length, map}
 use Rattle.std.proofs.Common.{refl, ap, sym, subst, ◌∙◌, arith, Some, length-append}
 use Rattle.std.specs.Prelude.{slice_get, IsSome}
 use Rattle.std.proofs.lemmas.List.{length-map}
@@ -7,7 +8,8 @@ use Rattle.id_value.specs.List.{Among}
 use Rattle.id_value.proofs.AmongLemmas.{Among-either}
 use Rattle.id_table.specs.declared.row.Region.{Region}
 use Rattle.id_table.specs.declared.row.Node.{Node}
-use Rattle.id_table.specs.declared.row.Node.TheVariants.{Head, Param, Literal, Name, Unary as UnaryNode, Binary as BinaryNode}
+use Rattle.id_table.specs.declared.row.Node.TheVariants.{Head, Param, Literal, Name, Unary as UnaryNode}
+use Rattle.id_table.specs.declared.row.Node.TheVariants.{Binary as BinaryNode}
 use Rattle.id_table.specs.declared.row.Node.TheVariants.{Split, If, Enter, Arg, Call, Block, Binding, Def, Program}
 use Rattle.id_table.specs.declared.row.Node.TheVariants.{Start, LoopHead, Variable, Entries, Switches, Turn, NextUse}
 use Rattle.id_table.specs.declared.row.Node.TheVariants.{Next, Body, Reset, Loop, Array, Fetch, Address, Store}
@@ -29,9 +31,11 @@ use Rattle.id_build.specs.declared.arc.Form.TheVariants.{Plain}
 use Rattle.id_build.specs.declared.arc.Origin.{Origin}
 use Rattle.id_build.specs.declared.arc.Feed.{Feed}
 use Rattle.id_build.specs.declared.arc.Piece.{Piece}
-use Rattle.id_build.specs.Rows.{Entry, block, body_of, bounds_feeds, carried_feeds, entering, entries_row, entry_feeds, feed, feeds_of, first_binder, for_each}
+use Rattle.id_build.specs.Rows.{Entry, block, body_of, bounds_feeds, carried_feeds, entering, entries_row, entry_feeds}
+use Rattle.id_build.specs.Rows.{feed, feeds_of, first_binder, for_each}
 use Rattle.id_build.specs.Rows.{import_entries, import_feeds, label, loop_entries, made, made_of, name_in, node, op_by}
-use Rattle.id_build.specs.Rows.{home as bound_home, origin, output, param_entry, part_of, piece, send_to, switches, turn_feeds, turn_row, variable_entries}
+use Rattle.id_build.specs.Rows.{home as bound_home, origin, output, param_entry, part_of, piece, send_to, switches}
+use Rattle.id_build.specs.Rows.{turn_feeds, turn_row, variable_entries}
 use Rattle.id_build.specs.Schemas.{HasSide}
 use Rattle.id_build.proofs.NamesSeen.{Sees}
 
@@ -55,7 +59,8 @@ for_each-at P op e (b ∷ bs) zero l = (_, refl)
 for_each-at P op e (b ∷ bs) (suc j) l = for_each-at P op e bs j (omega (arith, l))
 
 -- the `send` to each of these entries
-send_to-at : (P : Checked) (e : ℕ) (qs : List Entry) (j : ℕ) → j < length qs → (q : Entry) × (slice_get (map (send_to P e) qs) j ≡ Some (send_to P e q))
+send_to-at : (P : Checked) (e : ℕ) (qs : List Entry) (j : ℕ) → j < length qs
+    → (q : Entry) × (slice_get (map (send_to P e) qs) j ≡ Some (send_to P e q))
 send_to-at P e [] j l = absurd (omega (arith, l))
 send_to-at P e (q ∷ qs) zero l = (q, refl)
 send_to-at P e (q ∷ qs) (suc j) l = send_to-at P e qs j (omega (arith, l))
@@ -69,7 +74,8 @@ length-import_entries e k [] = refl
 length-import_entries e k (b ∷ bs) = ap suc (length-import_entries e (k + 1) bs)
 
 -- a loop has one entry for each of what it carries on, for each of its variables, and for each of its imports
-pub length-loop_entries : (P : Checked) (h : ℕ) → length (loop_entries P h) ≡ length (carried P h) + length (nexts_of P h) + length (imports_of P h)
+pub length-loop_entries : (P : Checked) (h : ℕ)
+    → length (loop_entries P h) ≡ length (carried P h) + length (nexts_of P h) + length (imports_of P h)
 length-loop_entries P h =
     let vs = variable_entries (first_variable P h) (nexts_of P h) in
     let is = import_entries (entries_row P h) 0 (imports_of P h) in
@@ -84,11 +90,16 @@ length-loop_entries P h =
 
 pub length-entering : (P : Checked) (h : ℕ) → length (entering P h) ≡ length (nexts_of P h) + length (imports_of P h)
 length-entering P h =
-    omega (arith, length-append (map (first_binder P) (nexts_of P h)) (imports_of P h), length-map (nexts_of P h) (first_binder P))
+    omega (
+      arith,
+      length-append (map (first_binder P) (nexts_of P h)) (imports_of P h),
+      length-map (nexts_of P h) (first_binder P),
+    )
 
 -- each feed of an import goes to a port of its part, where both its ports take something
 imports_take : (P : Checked) (ps : List Piece) (s : Origin) (r : Region) (k : ℕ) (bs : List ℕ) (f : Feed)
-    → ((j : ℕ) (p : Port) → j < length bs → Takes ps (k + j) p) → Among f (import_feeds P s r k bs) → Takes ps f.part f.port
+    → ((j : ℕ) (p : Port) → j < length bs → Takes ps (k + j) p) → Among f (import_feeds P s r k bs)
+    → Takes ps f.part f.port
 imports_take P ps s r k [] f at h = absurd h
 imports_take P ps s r k (b ∷ bs) f at (inl i) =
     let here : k + 0 ≡ k = omega arith in
@@ -98,10 +109,12 @@ imports_take P ps s r k (b ∷ bs) f at (inr (inl i)) =
     subst (λ (g : Feed). Takes ps g.part g.port) (sym i) (subst (λ m. Takes ps m One) here (at 0 One (omega arith)))
 imports_take P ps s r k (b ∷ bs) f at (inr (inr h)) =
     imports_take P ps s r (k + 1) bs f
-    (λ j p l. (let next : k + suc j ≡ k + 1 + j = omega arith in subst (λ m. Takes ps m p) next (at (suc j) p (omega (arith, l))))) h
+    (λ j p l. (let next : k + suc j ≡ k + 1 + j = omega arith in
+    subst (λ m. Takes ps m p) next (at (suc j) p (omega (arith, l))))) h
 
 -- switches take something at both ports
-switch_takes : (P : Checked) (e : ℕ) (p : Piece) (bs : List ℕ) (j : ℕ) (q : Port) → j < length bs → Takes (p ∷ switches P e bs) (1 + j) q
+switch_takes : (P : Checked) (e : ℕ) (p : Piece) (bs : List ℕ) (j : ℕ) (q : Port) → j < length bs
+    → Takes (p ∷ switches P e bs) (1 + j) q
 switch_takes P e p bs j Zero l =
     let z = for_each-at P Switch e bs j l in
     let next : 1 + j ≡ suc j = omega arith in
@@ -112,7 +125,8 @@ switch_takes P e p bs j One l =
     record { piece = _; at = ap (slice_get (p ∷ switches P e bs)) next ∙ z.1; takes = λ _. refl }
 
 -- and so does a `send`
-send_takes : (P : Checked) (e : ℕ) (p : Piece) (qs : List Entry) (j : ℕ) (q : Port) → j < length qs → Takes (p ∷ map (send_to P e) qs) (1 + j) q
+send_takes : (P : Checked) (e : ℕ) (p : Piece) (qs : List Entry) (j : ℕ) (q : Port) → j < length qs
+    → Takes (p ∷ map (send_to P e) qs) (1 + j) q
 send_takes P e p qs j Zero l =
     let z = send_to-at P e qs j l in
     let next : 1 + j ≡ suc j = omega arith in
@@ -123,25 +137,27 @@ send_takes P e p qs j One l =
     record { piece = _; at = ap (slice_get (p ∷ map (send_to P e) qs)) next ∙ z.1; takes = λ _. refl }
 
 -- each feed of an entry goes to it, and each of what hands on to that
-entries_take : (ps : List Piece) (n i k : ℕ) (bs : List ℕ) (f : Feed) → ((j : ℕ) → j < length bs → Takes ps (k + j) Zero)
-    → Among f (entry_feeds n i k bs) → Takes ps f.part f.port
+entries_take : (ps : List Piece) (n i k : ℕ) (bs : List ℕ) (f : Feed)
+    → ((j : ℕ) → j < length bs → Takes ps (k + j) Zero) → Among f (entry_feeds n i k bs) → Takes ps f.part f.port
 entries_take ps n m k [] f at h = absurd h
 entries_take ps n m k (b ∷ bs) f at (inl i) =
     let here : k + 0 ≡ k = omega arith in
     subst (λ (g : Feed). Takes ps g.part g.port) (sym i) (subst (λ m. Takes ps m Zero) here (at 0 (omega arith)))
 entries_take ps n m k (b ∷ bs) f at (inr h) =
     entries_take ps n (m + 1) (k + 1) bs f
-    (λ j l. (let next : k + suc j ≡ k + 1 + j = omega arith in subst (λ m. Takes ps m Zero) next (at (suc j) (omega (arith, l))))) h
+    (λ j l. (let next : k + suc j ≡ k + 1 + j = omega arith in
+    subst (λ m. Takes ps m Zero) next (at (suc j) (omega (arith, l))))) h
 
-turn_takes : (P : Checked) (ps : List Piece) (r : Region) (k : ℕ) (bs : List ℕ) (f : Feed) → ((j : ℕ) → j < length bs → Takes ps (k + j) Zero)
-    → Among f (turn_feeds P r k bs) → Takes ps f.part f.port
+turn_takes : (P : Checked) (ps : List Piece) (r : Region) (k : ℕ) (bs : List ℕ) (f : Feed)
+    → ((j : ℕ) → j < length bs → Takes ps (k + j) Zero) → Among f (turn_feeds P r k bs) → Takes ps f.part f.port
 turn_takes P ps r k [] f at h = absurd h
 turn_takes P ps r k (b ∷ bs) f at (inl i) =
     let here : k + 0 ≡ k = omega arith in
     subst (λ (g : Feed). Takes ps g.part g.port) (sym i) (subst (λ m. Takes ps m Zero) here (at 0 (omega arith)))
 turn_takes P ps r k (b ∷ bs) f at (inr h) =
     turn_takes P ps r (k + 1) bs f
-    (λ j l. (let next : k + suc j ≡ k + 1 + j = omega arith in subst (λ m. Takes ps m Zero) next (at (suc j) (omega (arith, l))))) h
+    (λ j l. (let next : k + suc j ≡ k + 1 + j = omega arith in
+    subst (λ m. Takes ps m Zero) next (at (suc j) (omega (arith, l))))) h
 
 -- a merge of each import takes something, and so does what hands each on
 merge_takes : (P : Checked) (e : ℕ) (bs : List ℕ) (j : ℕ) → j < length bs → Takes (for_each P Merge e bs) (0 + j) Zero
@@ -150,25 +166,33 @@ merge_takes P e bs j l =
     let next : 0 + j ≡ j = omega arith in
     record { piece = _; at = ap (slice_get (for_each P Merge e bs)) next ∙ z.1; takes = λ _. refl }
 
-next_takes : (P : Checked) (e : ℕ) (p : Piece) (bs : List ℕ) (j : ℕ) → j < length bs → Takes (p ∷ for_each P NextOp e bs) (1 + j) Zero
+next_takes : (P : Checked) (e : ℕ) (p : Piece) (bs : List ℕ) (j : ℕ) → j < length bs
+    → Takes (p ∷ for_each P NextOp e bs) (1 + j) Zero
 next_takes P e p bs j l =
     let z = for_each-at P NextOp e bs j l in
     let next : 1 + j ≡ suc j = omega arith in
     record { piece = _; at = ap (slice_get (p ∷ for_each P NextOp e bs)) next ∙ z.1; takes = λ _. refl }
 
 -- the feeds of what a loop carries on go to the sends of that, and to what hands it on
-bounds_take : (P : Checked) (ps : List Piece) (n : ℕ) (x : Node) (f : Feed) → ((j : ℕ) (p : Port) → j < 3 → Takes ps (1 + j) p)
-    → Among f (bounds_feeds P n x) → Takes ps f.part f.port
-bounds_take P ps n (Bounds a b) f at (inl i) = subst (λ (g : Feed). Takes ps g.part g.port) (sym i) (at 0 Zero (omega arith))
-bounds_take P ps n (Bounds a b) f at (inr (inl i)) = subst (λ (g : Feed). Takes ps g.part g.port) (sym i) (at 0 One (omega arith))
-bounds_take P ps n (Bounds a b) f at (inr (inr (inl i))) = subst (λ (g : Feed). Takes ps g.part g.port) (sym i) (at 1 Zero (omega arith))
-bounds_take P ps n (Bounds a b) f at (inr (inr (inr (inl i)))) = subst (λ (g : Feed). Takes ps g.part g.port) (sym i) (at 1 One (omega arith))
-bounds_take P ps n (Bounds a b) f at (inr (inr (inr (inr (inl i))))) = subst (λ (g : Feed). Takes ps g.part g.port) (sym i) (at 2 Zero (omega arith))
-bounds_take P ps n (Bounds a b) f at (inr (inr (inr (inr (inr (inl i)))))) = subst (λ (g : Feed). Takes ps g.part g.port) (sym i) (at 2 One (omega arith))
+bounds_take : (P : Checked) (ps : List Piece) (n : ℕ) (x : Node) (f : Feed)
+    → ((j : ℕ) (p : Port) → j < 3 → Takes ps (1 + j) p) → Among f (bounds_feeds P n x) → Takes ps f.part f.port
+bounds_take P ps n (Bounds a b) f at (inl i) =
+    subst (λ (g : Feed). Takes ps g.part g.port) (sym i) (at 0 Zero (omega arith))
+bounds_take P ps n (Bounds a b) f at (inr (inl i)) =
+    subst (λ (g : Feed). Takes ps g.part g.port) (sym i) (at 0 One (omega arith))
+bounds_take P ps n (Bounds a b) f at (inr (inr (inl i))) =
+    subst (λ (g : Feed). Takes ps g.part g.port) (sym i) (at 1 Zero (omega arith))
+bounds_take P ps n (Bounds a b) f at (inr (inr (inr (inl i)))) =
+    subst (λ (g : Feed). Takes ps g.part g.port) (sym i) (at 1 One (omega arith))
+bounds_take P ps n (Bounds a b) f at (inr (inr (inr (inr (inl i))))) =
+    subst (λ (g : Feed). Takes ps g.part g.port) (sym i) (at 2 Zero (omega arith))
+bounds_take P ps n (Bounds a b) f at (inr (inr (inr (inr (inr (inl i)))))) =
+    subst (λ (g : Feed). Takes ps g.part g.port) (sym i) (at 2 One (omega arith))
 bounds_take P ps n (Bounds a b) f at (inr (inr (inr (inr (inr (inr h)))))) = absurd h
 bounds_take P ps n _ f at h = absurd h
 
-carried_take : (P : Checked) (ps : List Piece) (n : ℕ) (r : Region) (h : ℕ) (f : Feed) → ((j : ℕ) → j < length (carried P h) → Takes ps (1 + j) Zero)
+carried_take : (P : Checked) (ps : List Piece) (n : ℕ) (r : Region) (h : ℕ) (f : Feed)
+    → ((j : ℕ) → j < length (carried P h) → Takes ps (1 + j) Zero)
     → Among f (carried_feeds P n r h) → Takes ps f.part f.port
 carried_take P ps n r h f at among = go (has_index P h) at among
   where
@@ -184,7 +208,8 @@ carried_take P ps n r h f at among = go (has_index P h) at among
     there at (inr (inr (inl i))) = subst (λ (g : Feed). Takes ps g.part g.port) (sym i) (at 2 (omega arith))
     there at (inr (inr (inr k))) = absurd k
 
-    go : (t : Bool) → ((j : ℕ) → j < length (cond t xs []) → Takes ps (1 + j) Zero) → Among f (cond t fs []) → Takes ps f.part f.port
+    go : (t : Bool) → ((j : ℕ) → j < length (cond t xs []) → Takes ps (1 + j) Zero) → Among f (cond t fs [])
+        → Takes ps f.part f.port
     go true at k = there at k
     go false at k = absurd k
 
@@ -228,7 +253,8 @@ pub record IsPart (P : Checked) (r : Region) (e : ℕ) : Type 0 where
   pub value : IsValue (node P (at (rows P) e).value)
   pub region_of : region P (at (rows P) e).value ≡ r
 
--- whether a label stands at a row of this node: a binder's, or that of a loop's variable or of what it carries on beside
+-- whether a label stands at a row of this node: a binder's, or that of a loop's variable or of what it carries on
+-- beside
 abbrev pub is_label : Node → Bool
 is_label (Param x k) = true
 is_label (Binding x a) = true
@@ -253,7 +279,8 @@ pub record IsNamed (P : Checked) (v : ℕ) : Type 0 where
 abbrev pub AllSeen : Checked → Region → List ℕ → Type 0
 AllSeen P r bs = (b : ℕ) → Among b bs → IsSeen P r b
 
--- the first instruction of a row of this node turns on what is on this side of it: that of a procedure or a loop its own
+-- the first instruction of a row of this node turns on what is on this side of it: that of a procedure or a loop its
+-- own
 -- region, switches both of their sides
 abbrev pub Heads : Node → Bool → Type 0
 Heads Head b = b ≡ true
@@ -272,7 +299,8 @@ pub record IsEntered (P : Checked) (e : ℕ) : Type 0 where
   pub within : e < length (rows P)
   pub is_enter : is_enter (node P e) ≡ true
 
--- of the loop whose `Start` is at the row n, in the region, with this node before it: what feeds the sends of what it carries
+-- of the loop whose `Start` is at the row n, in the region, with this node before it: what feeds the sends of what it
+-- carries
 -- on
 abbrev pub SuitsBounds : Checked → ℕ → Region → Node → Type 0
 SuitsBounds P n r (Bounds a b) =
@@ -302,7 +330,8 @@ Suits P n r (LoopHead s) = IsOrigin P (output (turn_row P n)) × IsOrigin P (out
 Suits P n r (Carried k) = IsOrigin P (part_of (turn_row P (block P n)) (n - block P n))
 Suits P n r Variable = IsOrigin P (output (next_of P n))
 Suits P n r Entries =
-    (k : ℕ) → k < length (imports_of P (block P n)) → IsOrigin P (part_of (turn_row P (block P n)) (1 + length (carried P (block P n)) + k))
+    (k : ℕ) → k < length (imports_of P (block P n))
+    → IsOrigin P (part_of (turn_row P (block P n)) (1 + length (carried P (block P n)) + k))
 Suits P n r (Switches t) = IsPart P r t × IsTurned P r × AllSeen P r (imports_of P n)
 Suits P n r Count =
     IsOrigin P (output (block P n + 1)) × IsSeen P r (block P n + 2) × IsTurned P r
@@ -457,9 +486,11 @@ feeds_take P m e r Start f s (inr h) = elim (Among-either f bs is h) [
 
     bounds : (x : Node) → SuitsBounds P m r x → Among f (bounds_feeds P m x) → Takes (made_of P m e Start) f.part f.port
     bounds (Bounds a b) u k =
-        let three : length (carried P (m + 1)) ≡ 3 = ap (λ (t : Bool). length (cond t ((m + 1 + 1) ∷ (m + 1 + 2) ∷ (m + 1 + 3) ∷ []) [])) u.0 in
+        let three : length (carried P (m + 1)) ≡ 3 =
+        ap (λ (t : Bool). length (cond t ((m + 1 + 1) ∷ (m + 1 + 2) ∷ (m + 1 + 3) ∷ []) [])) u.0 in
         bounds_take P (made_of P m e Start) m (Bounds a b) f
-        (λ j p l. send_takes P e _ (loop_entries P (m + 1)) j p (omega (arith, l, three, length-loop_entries P (m + 1)))) k
+        (λ j p l. send_takes P e _ (loop_entries P (m + 1)) j p
+        (omega (arith, l, three, length-loop_entries P (m + 1)))) k
     bounds _ u k = absurd k
 feeds_take P m e r (LoopHead q) f s (inl i) =
     let Z : Feed → Type 0 = λ g. Takes (made_of P m e (LoopHead q)) g.part g.port in
@@ -473,7 +504,8 @@ feeds_take P m e r Variable f s (inl i) =
     subst Z (sym i) (record { piece = _; at = refl; takes = λ _. refl })
 feeds_take P m e r Variable f s (inr h) = absurd h
 feeds_take P m e r Entries f s h =
-    entries_take (made_of P m e Entries) (turn_row P (block P m)) (1 + length (carried P (block P m))) 0 (imports_of P (block P m)) f (merge_takes P e (imports_of P (block P m))) h
+    entries_take (made_of P m e Entries) (turn_row P (block P m)) (1 + length (carried P (block P m))) 0
+    (imports_of P (block P m)) f (merge_takes P e (imports_of P (block P m))) h
 feeds_take P m e r (Switches t) f s (inl i) =
     let Z : Feed → Type 0 = λ g. Takes (made_of P m e (Switches t)) g.part g.port in
     subst Z (sym i) (record { piece = _; at = refl; takes = λ _. refl })
@@ -481,7 +513,8 @@ feeds_take P m e r (Switches t) f s (inr (inl i)) =
     let Z : Feed → Type 0 = λ g. Takes (made_of P m e (Switches t)) g.part g.port in
     subst Z (sym i) (record { piece = _; at = refl; takes = λ _. refl })
 feeds_take P m e r (Switches t) f s (inr (inr h)) =
-    imports_take P (made_of P m e (Switches t)) (origin P t) r 1 (imports_of P m) f (switch_takes P e _ (imports_of P m)) h
+    imports_take P (made_of P m e (Switches t)) (origin P t) r 1 (imports_of P m) f
+    (switch_takes P e _ (imports_of P m)) h
 feeds_take P m e r Turn f s (inl i) =
     let Z : Feed → Type 0 = λ g. Takes (made_of P m e Turn) g.part g.port in
     subst Z (sym i) (record { piece = _; at = refl; takes = λ _. refl })
@@ -497,7 +530,8 @@ feeds_take P m e r Turn f s (inr h) =
           turn_takes P (made_of P m e Turn) r (1 + length cs) (imports_of P g) f
           (λ j l. (
           let up : 1 + (length cs + j) ≡ 1 + length cs + j = omega arith in
-          subst (λ z. Takes (made_of P m e Turn) z Zero) up (next_takes P e _ all (length cs + j) (omega (arith, l, length-append cs (imports_of P g)))))) k
+          subst (λ z. Takes (made_of P m e Turn) z Zero) up
+          (next_takes P e _ all (length cs + j) (omega (arith, l, length-append cs (imports_of P g)))))) k
     ]
 feeds_take P m e r (NextUse x) f s h = absurd h
 feeds_take P m e r (Next x k o v) f s (inl i) =

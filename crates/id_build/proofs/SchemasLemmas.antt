@@ -3,7 +3,8 @@ use Rattle.std.proofs.Common.{◌≡◌, ◌<◌, inl, inr, cond, ℕ, zero, suc
 use Rattle.std.proofs.Common.{get_or, refl, ap, sym, subst, ◌∙◌, arith, Some}
 use Rattle.std.specs.Prelude.{All, IsSome, option_and_then, slice_get}
 use Rattle.std.proofs.lemmas.Option.{slice_get-get_or, slice_get_within}
-use Rattle.id_build.proofs.ArcsLemmas.{AllDiffer-arcs_in, AllDiffer-dests, arcs_in-among, arcs_in-from, dests_from-among, dests_from-from, Tells}
+use Rattle.id_build.proofs.ArcsLemmas.{AllDiffer-arcs_in, AllDiffer-dests, arcs_in-among, arcs_in-from}
+use Rattle.id_build.proofs.ArcsLemmas.{dests_from-among, dests_from-from, Tells}
 use Rattle.id_build.proofs.NumberLemmas.{first_in-apart, pieces_in-at, pieces_in-from}
 use Rattle.id_build.proofs.RowLemmas.{feeds_take, IsBuildable, IsOrigin, Takes}
 use Rattle.id_build.proofs.FeedsLemmas.{feeds_come, feeds_differ}
@@ -15,7 +16,8 @@ use Rattle.id_instr.specs.declared.dests.Port.{Port}
 use Rattle.id_build.specs.declared.arc.Arc.{Arc}
 use Rattle.id_build.specs.declared.arc.Feed.{Feed}
 use Rattle.id_build.specs.declared.arc.Piece.{Piece}
-use Rattle.id_build.specs.Made.{AreFirsts, arc_of, arcs_in, dest_of, dests_from, first_in, graph_by, instrs_from, IsFrom, joined, number_by, pieces_in}
+use Rattle.id_build.specs.Made.{AreFirsts, arc_of, arcs_in, dest_of, dests_from, first_in, graph_by, instrs_from}
+use Rattle.id_build.specs.Made.{IsFrom, joined, number_by, pieces_in}
 use Rattle.id_build.specs.Rows.{answer_row, feed, feeds, made, node, op_by, piece}
 use Rattle.id_instr.specs.Graph.{arcs, arcs_on, false_arcs}
 use Rattle.id_instr.specs.Ports.{two_sides}
@@ -32,7 +34,8 @@ use Rattle.id_build.proofs.OrderLemmas.{IsOrder}
 instrs_from-at : (F : List ℕ) (ps : List Piece) (m k : ℕ) (vs : List Arc) (p : Piece) → slice_get ps k ≡ Some p →
     slice_get (instrs_from F m ps vs) k ≡ Some (joined F (m + k) p vs)
 instrs_from-at F [] m k vs p h = cc
-instrs_from-at F (q ∷ ps) m zero vs p h = let e : m ≡ m + 0 = omega arith in let i : q ≡ p = cc in ap (λ x. Some (joined F x q vs)) e ∙
+instrs_from-at F (q ∷ ps) m zero vs p h =
+    let e : m ≡ m + 0 = omega arith in let i : q ≡ p = cc in ap (λ x. Some (joined F x q vs)) e ∙
     ap (λ x. Some (joined F (m + 0) x vs)) i
 instrs_from-at F (q ∷ ps) m (suc k) vs p h =
     let e : m + 1 + k ≡ m + suc k = omega arith in
@@ -44,7 +47,8 @@ record IsJoined (F : List ℕ) (ps : List Piece) (m k : ℕ) (vs : List Arc) (i 
   at : slice_get ps k ≡ Some piece
   is : i ≡ joined F (m + k) piece vs
 
-instrs_from-from : (F : List ℕ) (ps : List Piece) (m k : ℕ) (vs : List Arc) (i : Instr) → slice_get (instrs_from F m ps vs) k ≡ Some i → IsJoined F ps m k vs i
+instrs_from-from : (F : List ℕ) (ps : List Piece) (m k : ℕ) (vs : List Arc) (i : Instr)
+    → slice_get (instrs_from F m ps vs) k ≡ Some i → IsJoined F ps m k vs i
 instrs_from-from F [] m k vs i h = cc
 instrs_from-from F (q ∷ ps) m zero vs i h = let e : m ≡ m + 0 = omega arith in let j : joined F m q vs ≡ i = cc in
     record { piece = q; at = refl; is = sym j ∙ ap (λ x. joined F x q vs) e }
@@ -54,19 +58,23 @@ instrs_from-from F (q ∷ ps) m (suc k) vs i h =
     record { piece = rest.piece; at = rest.at; is = rest.is ∙ ap (λ x. joined F x rest.piece vs) e }
 
 -- its number, by the order
-number_is : (P : Checked) (order F : List ℕ) (n k : ℕ) → AreFirsts P order F → n < length (rows P) → number_by F n k ≡ first_in P 0 order n + k
+number_is : (P : Checked) (order F : List ℕ) (n k : ℕ) → AreFirsts P order F → n < length (rows P)
+    → number_by F n k ≡ first_in P 0 order n + k
 number_is P order F n k fs l = let at = fs.at n l in omega arith
 
 -- an instruction of a row stands at its number
-stands : (P : Checked) (order F : List ℕ) (n k : ℕ) (p : Piece) → IsOrder P order → AreFirsts P order F → n < length (rows P) →
+stands : (P : Checked) (order F : List ℕ) (n k : ℕ) (p : Piece) → IsOrder P order → AreFirsts P order F
+    → n < length (rows P) →
     slice_get (made P n) k ≡ Some p → slice_get (pieces_in P order) (number_by F n k) ≡ Some p
 stands P order F n k p o fs l h =
     let at = pieces_in-at P order 0 n k p (o.covers n l) h in
     let e : number_by F n k ≡ at.0 = omega (arith, at.1, number_is P order F n k fs l) in
     ap (slice_get (pieces_in P order)) e ∙ at.2
 
-instr_at : (P : Checked) (order F : List ℕ) (n k : ℕ) (p : Piece) → IsOrder P order → AreFirsts P order F → n < length (rows P) →
-    slice_get (made P n) k ≡ Some p → slice_get (graph_by P order F).instrs (number_by F n k) ≡ Some (joined F (number_by F n k) p (arcs_in P F order))
+instr_at : (P : Checked) (order F : List ℕ) (n k : ℕ) (p : Piece) → IsOrder P order → AreFirsts P order F
+    → n < length (rows P) →
+    slice_get (made P n) k ≡ Some p
+    → slice_get (graph_by P order F).instrs (number_by F n k) ≡ Some (joined F (number_by F n k) p (arcs_in P F order))
 instr_at P order F n k p o fs l h =
     let e : 0 + number_by F n k ≡ number_by F n k = omega arith in
     instrs_from-at F (pieces_in P order) 0 (number_by F n k) (arcs_in P F order) p (stands P order F n k p o fs l h) ∙
@@ -81,17 +89,22 @@ is_joined P order F m i h =
     (j.piece, j.at, j.is ∙ ap (λ x. joined F x j.piece (arcs_in P F order)) e)
 
 -- two instructions have two numbers
-number-apart : (P : Checked) (order F : List ℕ) (n k n' k' : ℕ) (p p' : Piece) → IsOrder P order → AreFirsts P order F → n < length (rows P) →
-    n' < length (rows P) → slice_get (made P n) k ≡ Some p → slice_get (made P n') k' ≡ Some p' → number_by F n k ≡ number_by F n' k' → (n ≡ n') × (k ≡ k')
+number-apart : (P : Checked) (order F : List ℕ) (n k n' k' : ℕ) (p p' : Piece) → IsOrder P order → AreFirsts P order F
+    → n < length (rows P) →
+    n' < length (rows P) → slice_get (made P n) k ≡ Some p → slice_get (made P n') k' ≡ Some p'
+    → number_by F n k ≡ number_by F n' k' → (n ≡ n') × (k ≡ k')
 number-apart P order F n k n' k' p p' o fs l l' h h' e =
-    first_in-apart P order 0 n k n' k' (o.covers n l) (o.covers n' l') (slice_get_within (made P n) k p h) (slice_get_within (made P n') k' p' h')
+    first_in-apart P order 0 n k n' k' (o.covers n l) (o.covers n' l') (slice_get_within (made P n) k p h)
+    (slice_get_within (made P n') k' p' h')
     (sym (number_is P order F n k fs l) ∙ e ∙ number_is P order F n' k' fs l')
 
 -- the row of a feed
-Feeds-row : (P : Checked) (n : ℕ) (f : Feed) → IsBuildable P → n < length (rows P) → Among f (feeds P n) → Takes (made P n) f.part f.port
+Feeds-row : (P : Checked) (n : ℕ) (f : Feed) → IsBuildable P → n < length (rows P) → Among f (feeds P n)
+    → Takes (made P n) f.part f.port
 Feeds-row P n f t l h = feeds_take P n (place P n) (region P n) (node P n) f (t.suits n l) h
 
-Feeds-origin : (P : Checked) (n : ℕ) (f : Feed) → IsBuildable P → n < length (rows P) → Among f (feeds P n) → IsOrigin P f.origin
+Feeds-origin : (P : Checked) (n : ℕ) (f : Feed) → IsBuildable P → n < length (rows P) → Among f (feeds P n)
+    → IsOrigin P f.origin
 Feeds-origin P n f t l h = feeds_come P n (region P n) (node P n) f t (t.suits n l) h
 
 -- an arc tells the row and the feed that it comes from
@@ -101,10 +114,13 @@ tells P order F t o fs n n' f f' i i' h h' e =
     let l' = o.within n' i' in
     let to = Feeds-row P n f t l h in
     let to' = Feeds-row P n' f' t l' h' in
-    let goal = number-apart P order F n f.part n' f'.part to.piece to'.piece o fs l l' to.at to'.at (ap (λ a. a.to) e) in
+    let goal =
+    number-apart P order F n f.part n' f'.part to.piece to'.piece o fs l l' to.at to'.at (ap (λ a. a.to) e) in
     let from = Feeds-origin P n f t l h in
     let from' = Feeds-origin P n' f' t l' h' in
-    let start = number-apart P order F f.origin.row f.origin.part f'.origin.row f'.origin.part from.gives.piece from'.gives.piece o fs from.within
+    let start =
+    number-apart P order F f.origin.row f.origin.part f'.origin.row f'.origin.part from.gives.piece from'.gives.piece o
+    fs from.within
     from'.within from.gives.at from'.gives.at (ap (λ a. a.from) e) in
     let side = ap (λ a. a.side) e in
     let port = ap (λ a. a.port) e in
@@ -113,34 +129,48 @@ tells P order F t o fs n n' f f' i i' h h' e =
     ap (λ x. record { row = f'.origin.row; part = x; side = f.origin.side }) start.1
     ∙ ap (λ x. record { row = f'.origin.row; part = f'.origin.part; side = x }) side in (
       goal.0,
-      ap (λ x. record { origin = x; part = f.part; port = f.port }) origin ∙ ap (λ x. record { origin = f'.origin; part = x; port = f.port }) goal.1
+      ap (λ x. record { origin = x; part = f.part; port = f.port }) origin
+          ∙ ap (λ x. record { origin = f'.origin; part = x; port = f.port }) goal.1
           ∙ ap (λ x. record { origin = f'.origin; part = f'.part; port = x }) port,
     )
 
 -- no arc stands twice
-once_in : (P : Checked) (order F : List ℕ) → IsBuildable P → IsOrder P order → AreFirsts P order F → AllDiffer (arcs_in P F order)
+once_in : (P : Checked) (order F : List ℕ) → IsBuildable P → IsOrder P order → AreFirsts P order F
+    → AllDiffer (arcs_in P F order)
 once_in P order F t o fs =
-    AllDiffer-arcs_in P F order (tells P order F t o fs) (λ n i. feeds_differ P n (region P n) (node P n) t (t.suits n (o.within n i))) order (λ n i. i)
+    AllDiffer-arcs_in P F order (tells P order F t o fs)
+    (λ n i. feeds_differ P n (region P n) (node P n) t (t.suits n (o.within n i))) order (λ n i. i)
     o.differ
 
 -- what the graph sends is an arc of the builder's
-sent : (P : Checked) (order F : List ℕ) (m : ℕ) (b : Bool) (to : Dest) (i : Instr) → slice_get (graph_by P order F).instrs m ≡ Some i →
+sent : (P : Checked) (order F : List ℕ) (m : ℕ) (b : Bool) (to : Dest) (i : Instr)
+    → slice_get (graph_by P order F).instrs m ≡ Some i →
     Among to (arcs_on b i) → Among (record { from = m; side = b; to = to.instr; port = to.port }) (arcs_in P F order)
 sent P order F m b to i at h =
     let j = is_joined P order F m i at in
     let A : Instr → Type 0 = λ x. Among to (arcs_on b x) in
     dests_from-from m b to (arcs_in P F order) (on b (subst A j.2 h))
   where
-    on : (b : Bool) → Among to (arcs_on b (joined F m (is_joined P order F m i at).0 (arcs_in P F order))) → Among to (dests_from m b (arcs_in P F order))
+    on : (b : Bool) → Among to (arcs_on b (joined F m (is_joined P order F m i at).0 (arcs_in P F order)))
+        → Among to (dests_from m b (arcs_in P F order))
     on true k = k
     on false k = k
 
-port_at-instr : (is : List Instr) (to : Dest) (i : Instr) → slice_get is to.instr ≡ Some i → IsSome (port_kind i.op to.port) → IsPort is to
-port_at-instr is to i at h = let e : kind_at is to ≡ port_kind i.op to.port = ap (option_and_then (λ j. port_kind j.op to.port)) at in rw e h
+port_at-instr : (is : List Instr) (to : Dest) (i : Instr) → slice_get is to.instr ≡ Some i
+    → IsSome (port_kind i.op to.port) → IsPort is to
+port_at-instr is to i at h =
+    let e : kind_at is to ≡ port_kind i.op to.port = ap (option_and_then (λ j. port_kind j.op to.port)) at in rw e h
 
-pub Numbered-graph_by : (P : Checked) (order F : List ℕ) → IsBuildable P → IsOrder P order → AreFirsts P order F → Numbered P (graph_by P order F) (number_by F)
+pub Numbered-graph_by : (P : Checked) (order F : List ℕ) → IsBuildable P → IsOrder P order → AreFirsts P order F
+    → Numbered P (graph_by P order F) (number_by F)
 Numbered-graph_by P order F t o fs = record {
-  made = λ n k p e h. record { instr = _; at = instr_at P order F n k (piece p e) o fs h.within h.at; op = refl; place = refl };
+  made = λ n k p e h. record {
+    instr = _;
+    at = instr_at P order F n k (piece p e) o fs h.within h.at;
+    op = refl;
+    place =
+        refl;
+  };
   only = λ m i h. (
       let j = is_joined P order F m i h in
       let s = pieces_in-from P order 0 m j.0 o.differ j.1 in
@@ -153,7 +183,8 @@ Numbered-graph_by P order F t o fs = record {
         is = omega (arith, s.is, number_is P order F s.n s.k fs (o.within s.n s.among));
       }
       );
-  apart = λ n k n' k' p p' e e' h h' i. number-apart P order F n k n' k' (piece p e) (piece p' e') o fs h.within h'.within h.at h'.at i;
+  apart = λ n k n' k' p p' e e' h h' i. number-apart P order F n k n' k' (piece p e) (piece p' e') o fs h.within
+      h'.within h.at h'.at i;
   sends = λ s n k p h. (
       let f = feed s k p in
       let from = Feeds-origin P n f t h.within h.among in
@@ -162,7 +193,8 @@ Numbered-graph_by P order F t o fs = record {
       record {
         instr = _;
         at = instr_at P order F s.row s.part from.gives.piece o fs from.within from.gives.at;
-        lists = on_side F s.side (number_by F s.row s.part) from.gives.piece (arcs_in P F order) (dest_of a) (dests_from-among a (arcs_in P F order) among);
+        lists = on_side F s.side (number_by F s.row s.part) from.gives.piece (arcs_in P F order) (dest_of a)
+            (dests_from-among a (arcs_in P F order) among);
       }
       );
   no_more = λ m b to h. (
@@ -202,9 +234,12 @@ Numbered-graph_by P order F t o fs = record {
       let takes = Feeds-row P c.n c.fed t (o.within c.n c.at) c.among in
       let number : number_by F c.n c.fed.part ≡ to.instr = sym (ap (λ x. x.to) c.is) in
       let port : c.fed.port ≡ to.port = sym (ap (λ x. x.port) c.is) in
-      let A : ℕ → Type 0 = λ x. slice_get (graph_by P order F).instrs x ≡ Some (joined F (number_by F c.n c.fed.part) takes.piece (arcs_in P F order)) in
+      let A : ℕ → Type 0 =
+      λ x. slice_get (graph_by P order F).instrs x
+      ≡ Some (joined F (number_by F c.n c.fed.part) takes.piece (arcs_in P F order)) in
       let H : Port → Type 0 = λ x. IsSome (port_kind (op_by (number_by F) takes.piece.form) x) in
-      port_at-instr (graph_by P order F).instrs to _ (subst A number (instr_at P order F c.n c.fed.part takes.piece o fs (o.within c.n c.at) takes.at))
+      port_at-instr (graph_by P order F).instrs to _
+      (subst A number (instr_at P order F c.n c.fed.part takes.piece o fs (o.within c.n c.at) takes.at))
       (subst H port (takes.takes (number_by F)))
       );
   answer_first = fs.at (answer_row P) o.answer_within ∙ o.answer_first;
@@ -212,11 +247,13 @@ Numbered-graph_by P order F t o fs = record {
   blocks = refl;
 }
   where
-    on_side : (F : List ℕ) (b : Bool) (m : ℕ) (p : Piece) (vs : List Arc) (to : Dest) → Among to (dests_from m b vs) → Among to (arcs_on b (joined F m p vs))
+    on_side : (F : List ℕ) (b : Bool) (m : ℕ) (p : Piece) (vs : List Arc) (to : Dest) → Among to (dests_from m b vs)
+        → Among to (arcs_on b (joined F m p vs))
     on_side F true m p vs to h = h
     on_side F false m p vs to h = h
 
-    differ_on : (F : List ℕ) (b : Bool) (m : ℕ) (p : Piece) (vs : List Arc) → AllDiffer vs → AllDiffer (arcs_on b (joined F m p vs))
+    differ_on : (F : List ℕ) (b : Bool) (m : ℕ) (p : Piece) (vs : List Arc) → AllDiffer vs
+        → AllDiffer (arcs_on b (joined F m p vs))
     differ_on F true m p vs d = AllDiffer-dests m true vs d
     differ_on F false m p vs d = AllDiffer-dests m false vs d
 
@@ -228,13 +265,16 @@ pub IsFrom-arcs_in : (P : Checked) (order F : List ℕ) → IsBuildable P → Is
     All (IsFrom (pieces_in P order)) (arcs_in P F order)
 IsFrom-arcs_in P order F t o fs k d lt =
     let a = get_or (arcs_in P F order) k d in
-    let c = arcs_in-from P F order a (Among-from_at a (arcs_in P F order) k (slice_get-get_or (arcs_in P F order) k d lt)) in
+    let c = arcs_in-from P F order a
+    (Among-from_at a (arcs_in P F order) k (slice_get-get_or (arcs_in P F order) k d lt)) in
     let l = o.within c.n c.at in
     let to = Feeds-row P c.n c.fed t l c.among in
     let from = Feeds-origin P c.n c.fed t l c.among in
     let one = slice_get_within (pieces_in P order) (number_by F c.fed.origin.row c.fed.origin.part) from.gives.piece
     (stands P order F c.fed.origin.row c.fed.origin.part from.gives.piece o fs from.within from.gives.at) in
-    let two = slice_get_within (pieces_in P order) (number_by F c.n c.fed.part) to.piece (stands P order F c.n c.fed.part to.piece o fs l to.at) in
+    let two =
+    slice_get_within (pieces_in P order) (number_by F c.n c.fed.part) to.piece
+    (stands P order F c.n c.fed.part to.piece o fs l to.at) in
     let e = ap (λ x. x.from) c.is in
     let e' = ap (λ x. x.to) c.is in
     (omega arith, omega arith)
@@ -245,9 +285,15 @@ PortsExist-schemas P G s k d l j e m =
     let i = get_or G.instrs k d in
     let at = slice_get-get_or G.instrs k d l in
     let to = get_or (arcs i) j e in
-    elim (Among-either to (arcs_on true i) (false_arcs i) (Among-from_at to (arcs i) j (slice_get-get_or (arcs i) j e m))) [
+    elim (Among-either to (arcs_on true i) (false_arcs i)
+    (Among-from_at to (arcs i) j (slice_get-get_or (arcs i) j e m))) [
       | inl h ↦ s.numbered.ports k true to (record { instr = i; at = at; lists = h })
-      | inr h ↦ s.numbered.ports k false to (record { instr = i; at = at; lists = others (two_sides i.op) (arcs_on false i) to h })
+      | inr h ↦ s.numbered.ports k false to (record {
+        instr = i;
+        at = at;
+        lists =
+            others (two_sides i.op) (arcs_on false i) to h;
+      })
     ]
   where
     others : (t : Bool) (ds : List Dest) (to : Dest) → Among to (cond t ds []) → Among to ds

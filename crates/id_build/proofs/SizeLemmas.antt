@@ -1,5 +1,6 @@
 -- How many instructions rows make.
-use Rattle.std.proofs.Common.{◌≡◌, ℕ, zero, suc, ◌+◌, ◌-◌, ◌≤◌, ◌<◌, List, [], ◌∷◌, ◌++◌, length, length-append, refl, ap, arith, subst}
+use Rattle.std.proofs.Common.{◌≡◌, ℕ, zero, suc, ◌+◌, ◌-◌, ◌≤◌, ◌<◌, List, [], ◌∷◌, ◌++◌, length, length-append, refl}
+use Rattle.std.proofs.Common.{ap, arith, subst}
 use Rattle.std.proofs.lemmas.List.{length-map}
 use Rattle.id_table.specs.declared.row.Node.TheVariants.{Entries, Split, Start, Switches, Turn}
 use Rattle.id_check.specs.declared.checked.Checked.{Checked}
@@ -27,14 +28,19 @@ pub length-turn : (P : Checked) (n e : ℕ)
     → length (made_of P n e Turn) ≡ length (imports_of P (block P n)) + length (carried P (block P n)) + 1
 length-turn P n e =
     let h = block P n in
-    omega (arith, length-for_each P NextOp e (carried P h ++ imports_of P h), length-append (carried P h) (imports_of P h))
+    omega (
+      arith,
+      length-for_each P NextOp e (carried P h ++ imports_of P h),
+      length-append (carried P h) (imports_of P h),
+    )
 
 pub length-entries : (P : Checked) (n e : ℕ) → length (made_of P n e Entries) ≡ length (imports_of P (block P n))
 length-entries P n e = length-for_each P Merge e (imports_of P (block P n))
 
 -- a loop's `Start` has one for the loop, and one for each entry
 pub length-start : (P : Checked) (n e : ℕ)
-    → length (made_of P n e Start) ≡ length (nexts_of P (n + 1)) + length (imports_of P (n + 1)) + length (carried P (n + 1)) + 1
+    → length (made_of P n e Start) ≡ length (nexts_of P (n + 1)) + length (imports_of P (n + 1))
+    + length (carried P (n + 1)) + 1
 length-start P n e =
     omega (arith, length-map (loop_entries P (n + 1)) (send_to P e), length-loop_entries P (n + 1))
 

@@ -1,5 +1,6 @@
 -- Where imports stand, as they are noted one after another.
-use Rattle.std.proofs.Common.{◌≡◌, inl, inr, ℕ, zero, suc, ◌+◌, ◌<◌, ◌≤◌, Bool, true, false, List, [], ◌∷◌, ◌++◌, Option, Some, None}
+use Rattle.std.proofs.Common.{◌≡◌, inl, inr, ℕ, zero, suc, ◌+◌, ◌<◌, ◌≤◌, Bool, true, false, List, [], ◌∷◌, ◌++◌}
+use Rattle.std.proofs.Common.{Option, Some, None}
 use Rattle.std.proofs.Common.{length, get_or, take, refl, ap, subst, sym, ◌∙◌, arith}
 use Rattle.std.specs.Prelude.{◌^◌, ◌==◌, ◌&&◌, if◌then◌else◌, nat_lt, IsSome, unwrap_or}
 use Rattle.std.specs.Option.{option_or}
@@ -18,11 +19,13 @@ use Rattle.id_desugar.proofs.FilledLemmas.{all_imports-at, length-all_imports}
 
 -- ---- the imports of a head
 
-found-push : (xs : List ℕ) (y b : ℕ) → found (xs ++ y ∷ []) b ≡ option_or (found xs b) (if y == b then Some (length xs) else None)
+found-push : (xs : List ℕ) (y b : ℕ)
+    → found (xs ++ y ∷ []) b ≡ option_or (found xs b) (if y == b then Some (length xs) else None)
 found-push [] y b = refl
 found-push (x ∷ xs) y b = at (x == b) (found-push xs y b)
   where
-    put : (o : Option ℕ) (t : Bool) (n : ℕ) → behind (option_or o (if t then Some n else None)) ≡ option_or (behind o) (if t then Some (suc n) else None)
+    put : (o : Option ℕ) (t : Bool) (n : ℕ)
+        → behind (option_or o (if t then Some n else None)) ≡ option_or (behind o) (if t then Some (suc n) else None)
     put None true n = refl
     put None false n = refl
     put (Some k) t n = refl
@@ -50,10 +53,12 @@ noted_all-next h bs n i o l =
     long (x ∷ xs) zero m = refl
     long (x ∷ xs) (suc k) m = ap suc (long xs k (omega (arith, m)))
 
-    at : (t : Bool) → option_or (if t then found (take n bs) i.binder else None) (if t && (get_or bs n 0 == i.binder) then Some n else None)
-        ≡ (if t then found (take n bs ++ get_or bs n 0 ∷ []) i.binder else None)
+    at : (t : Bool)
+        → option_or (if t then found (take n bs) i.binder else None) (if t && (get_or bs n 0 == i.binder) then Some n
+        else None) ≡ (if t then found (take n bs ++ get_or bs n 0 ∷ []) i.binder else None)
     at true =
-        ap (λ z. option_or (found (take n bs) i.binder) (if get_or bs n 0 == i.binder then Some z else None)) (sym (long bs n l))
+        ap (λ z. option_or (found (take n bs) i.binder) (if get_or bs n 0 == i.binder then Some z else None))
+        (sym (long bs n l))
         ∙ sym (found-push (take n bs) (get_or bs n 0) i.binder)
     at false = refl
 
@@ -82,7 +87,8 @@ abbrev pub noted_below : (ℕ → List ℕ) → ℕ → Import → Option ℕ
 noted_below f n i = if nat_lt i.head n then found (f i.head) i.binder else None
 
 -- one more head is passed
-pub noted_below-next : (f : ℕ → List ℕ) (n : ℕ) (i : Import) → option_or (noted_below f n i) (noted_all n (f n) i) ≡ noted_below f (n + 1) i
+pub noted_below-next : (f : ℕ → List ℕ) (n : ℕ) (i : Import)
+    → option_or (noted_below f n i) (noted_all n (f n) i) ≡ noted_below f (n + 1) i
 noted_below-next f n i = at (nat_lt i.head n) refl (n == i.head) refl
   where
     less : nat_lt i.head n ≡ true → nat_lt i.head (n + 1) ≡ true
@@ -101,11 +107,13 @@ noted_below-next f n i = at (nat_lt i.head n) refl (n == i.head) refl
     none None = refl
     none (Some x) = refl
 
-    now : (t : Bool) → nat_lt i.head (n + 1) ≡ t → noted_below f (n + 1) i ≡ (if t then found (f i.head) i.binder else None)
+    now : (t : Bool) → nat_lt i.head (n + 1) ≡ t
+        → noted_below f (n + 1) i ≡ (if t then found (f i.head) i.binder else None)
     now t e = ap (λ z. if z then found (f i.head) i.binder else None) e
 
     at : (t : Bool) → nat_lt i.head n ≡ t → (u : Bool) → (n == i.head) ≡ u
-        → option_or (if t then found (f i.head) i.binder else None) (if u then found (f n) i.binder else None) ≡ noted_below f (n + 1) i
+        → option_or (if t then found (f i.head) i.binder else None) (if u then found (f n) i.binder else None)
+        ≡ noted_below f (n + 1) i
     at true e true g = absurd (apart e g)
     at true e false g = none (found (f i.head) i.binder) ∙ sym (now true (less e))
     at false e true g = ap (λ z. found (f z) i.binder) (eqb-true n i.head g) ∙ sym (now true (here g))
@@ -148,7 +156,8 @@ long_of P h = long_only (imports_of P h)
 -- a head is passed of which nothing is noted
 pub noted_below-none : (f : ℕ → List ℕ) (n : ℕ) (i : Import) → f n ≡ [] → noted_below f n i ≡ noted_below f (n + 1) i
 noted_below-none f n i e =
-    sym (none (noted_below f n i) (n == i.head)) ∙ ap (λ z. option_or (noted_below f n i) (noted_all n z i)) (sym e) ∙ noted_below-next f n i
+    sym (none (noted_below f n i) (n == i.head)) ∙ ap (λ z. option_or (noted_below f n i) (noted_all n z i)) (sym e)
+    ∙ noted_below-next f n i
   where
     none : (o : Option ℕ) (t : Bool) → option_or o (if t then None else None) ≡ o
     none None true = refl
@@ -157,14 +166,18 @@ noted_below-none f n i e =
 
 -- once all heads that import something are passed, what is noted is where each import of a head with many stands
 pub slots_are : (P : Checked) (n h b : ℕ) → 16 < length (imports_of P h) → ((i : ℕ) → n ≤ i → imports_of P i ≡ [])
-    → unwrap_or (noted_below (long_of P) n (record { head = h; binder = b })) (length (imports_of P h)) ≡ slot_of (imports_of P h) b
+    → unwrap_or (noted_below (long_of P) n (record { head = h; binder = b })) (length (imports_of P h))
+    ≡ slot_of (imports_of P h) b
 slots_are P n h b long past = at (nat_lt h n) refl
   where
     high : nat_lt h n ≡ false → n ≤ h
     high e = grind (arith, nat_tests, e)
 
-    at : (t : Bool) → nat_lt h n ≡ t → unwrap_or (if t then found (long_of P h) b else None) (length (imports_of P h)) ≡ slot_of (imports_of P h) b
-    at true e = ap (λ z. unwrap_or (found z b) (length (imports_of P h))) (long_all (imports_of P h) long) ∙ found_slot (imports_of P h) b
+    at : (t : Bool) → nat_lt h n ≡ t
+        → unwrap_or (if t then found (long_of P h) b else None) (length (imports_of P h)) ≡ slot_of (imports_of P h) b
+    at true e =
+        ap (λ z. unwrap_or (found z b) (length (imports_of P h))) (long_all (imports_of P h) long)
+        ∙ found_slot (imports_of P h) b
     at false e = ap length (past h (high e)) ∙ sym (ap (λ (z : List ℕ). slot_of z b) (past h (high e)))
 
 -- no more stand before than there are

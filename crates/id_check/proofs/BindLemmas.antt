@@ -18,7 +18,8 @@ use Rattle.id_check.specs.Names.{again, given, in_scope, key_of, newly, sought}
 use Rattle.id_check.proofs.ScopesLemmas.{or_none}
 
 -- what stands in the list may be read with another default
-pub read_at : (bs : List (Option Bound)) (x : ℕ) (v : Option Bound) → v ≡ get_or bs x v → x < length bs → v ≡ get_or bs x None
+pub read_at : (bs : List (Option Bound)) (x : ℕ) (v : Option Bound) → v ≡ get_or bs x v → x < length bs
+    → v ≡ get_or bs x None
 read_at bs x v e less = e ∙ get_or_default bs x v None less
 
 own_scope : (s b : ℕ) → in_scope s (Some (record { scope = s; binder = b })) ≡ Some b
@@ -28,14 +29,16 @@ other_scope : (s t b : ℕ) → s < t → in_scope t (Some (record { scope = s; 
 other_scope s t b less = grind (arith, nat_tests)
 
 -- what a scope further out has bound stays
-pub later_set : (s b x y t : ℕ) (bs : List (Option Bound)) → x < length bs → s < t → in_scope t (get_or bs y None) ≡ None
+pub later_set : (s b x y t : ℕ) (bs : List (Option Bound)) → x < length bs → s < t
+    → in_scope t (get_or bs y None) ≡ None
     → in_scope t (get_or (set bs x (Some (record { scope = s; binder = b }))) y None) ≡ None
 later_set s b x y t bs less far e = by (cases_eq y x)
   where
     by : (y ≡ x) ⊎ (y ≢ x) → in_scope t (get_or (set bs x (Some (record { scope = s; binder = b }))) y None) ≡ None
     by (inl q) =
         ap (λ k. in_scope t (get_or (set bs x (Some (record { scope = s; binder = b }))) k None)) q
-        ∙ (ap (in_scope t) (get_or-set_same bs x (Some (record { scope = s; binder = b })) None less) ∙ other_scope s t b far)
+        ∙ (ap (in_scope t) (get_or-set_same bs x (Some (record { scope = s; binder = b })) None less)
+        ∙ other_scope s t b far)
     by (inr q) = ap (in_scope t) (get_or-set_other bs x y (Some (record { scope = s; binder = b })) None q) ∙ e
 
 own_name : (x y : ℕ) → y ≡ x → is_name y (Some x) ≡ true
@@ -44,24 +47,31 @@ own_name x y e = grind (arith, nat_tests)
 other_name : (x y : ℕ) → y ≢ x → is_name y (Some x) ≡ false
 other_name x y e = grind (arith, nat_tests)
 
-value_key : (x y k : ℕ) (r q : Bool) → Some (x + x) ≡ Some k → (((true && r) && q) && is_name x (Some y)) ≡ (is_name k (Some (y + y)) && (r && q))
+value_key : (x y k : ℕ) (r q : Bool) → Some (x + x) ≡ Some k
+    → (((true && r) && q) && is_name x (Some y)) ≡ (is_name k (Some (y + y)) && (r && q))
 value_key x y k true true e = let d : x + x ≡ k = cc in grind (arith, nat_tests)
 value_key x y k true false e = let d : x + x ≡ k = cc in grind (arith, nat_tests)
 value_key x y k false q e = let d : x + x ≡ k = cc in grind (arith, nat_tests)
 
-procedure_key : (x y k : ℕ) (r q : Bool) → Some (x + x + 1) ≡ Some k → (((true && r) && q) && is_name x (Some y)) ≡ (is_name k (Some (y + y + 1)) && (r && q))
+procedure_key : (x y k : ℕ) (r q : Bool) → Some (x + x + 1) ≡ Some k
+    → (((true && r) && q) && is_name x (Some y)) ≡ (is_name k (Some (y + y + 1)) && (r && q))
 procedure_key x y k true true e = let d : x + x + 1 ≡ k = cc in grind (arith, nat_tests)
 procedure_key x y k true false e = let d : x + x + 1 ≡ k = cc in grind (arith, nat_tests)
 procedure_key x y k false q e = let d : x + x + 1 ≡ k = cc in grind (arith, nat_tests)
 
 odd_key : (x y k : ℕ) (r : Bool) → Some (x + x) ≡ Some k → false ≡ (is_name k (Some (y + y + 1)) && r)
-odd_key x y k r e = let d : x + x ≡ k = cc in let f : is_name k (Some (y + y + 1)) ≡ false = grind (arith, nat_tests) in sym (ap (λ t. t && r) f)
+odd_key x y k r e =
+    let d : x + x ≡ k =
+    cc in let f : is_name k (Some (y + y + 1)) ≡ false = grind (arith, nat_tests) in sym (ap (λ t. t && r) f)
 
 even_key : (x y k : ℕ) (r : Bool) → Some (x + x + 1) ≡ Some k → false ≡ (is_name k (Some (y + y)) && r)
-even_key x y k r e = let d : x + x + 1 ≡ k = cc in let f : is_name k (Some (y + y)) ≡ false = grind (arith, nat_tests) in sym (ap (λ t. t && r) f)
+even_key x y k r e =
+    let d : x + x + 1 ≡ k =
+    cc in let f : is_name k (Some (y + y)) ≡ false = grind (arith, nat_tests) in sym (ap (λ t. t && r) f)
 
 -- what looks in a scope for a name has its key there
-key_is : (m n : Node) (x k : ℕ) (r q : Bool) → sought m x ≡ Some k → (((looks m n && r) && q) && is_name x (used_name n)) ≡ (is_name k (key_of n) && (r && q))
+key_is : (m n : Node) (x k : ℕ) (r q : Bool) → sought m x ≡ Some k
+    → (((looks m n && r) && q) && is_name x (used_name n)) ≡ (is_name k (key_of n) && (r && q))
 key_is (Block b) (Name y) x k r q e = value_key x y k r q e
 key_is (Block b) (NextUse y) x k r q e = value_key x y k r q e
 key_is (Block b) (Enter y) x k r q e = odd_key x y k (r && q) e
@@ -113,7 +123,8 @@ module _ (R : List Row) (s b x : ℕ) (bs : List (Option Bound)) (o : Option ℕ
             q ∙ sym (ap (λ z. option_or z (if is_name y o then Some b else None)) q)
         by (inr e) =
             sym (or_none (in_scope s (get_or bs y None)) (if is_name y o then Some b else None)
-            (ap (λ q. if is_name y q then Some b else None) is ∙ ap (λ t. if t then Some b else None) (other_name x y e)))
+            (ap (λ q. if is_name y q then Some b else None) is
+            ∙ ap (λ t. if t then Some b else None) (other_name x y e)))
 
     pub newly-bound : (i : ℕ) (p : Option ℕ) → p ≡ option_or p (newly R s b bs o i)
     newly-bound i p =
@@ -135,7 +146,8 @@ module _ (R : List Row) (s b x : ℕ) (bs : List (Option Bound)) (o : Option ℕ
     pub newly-free : (i : ℕ) (p : Option ℕ) → sought (at R s).node x ≡ None → p ≡ option_or p (newly R s b bs o i)
     newly-free i p e =
         sym (or_none p (newly R s b bs o i) (newly-looked i
-        ∙ ap (λ t. if t then Some b else None) (key_none (at R s).node (at R i).node x (around R s i) (sees_own (at R i).node || held R i s)
+        ∙ ap (λ t. if t then Some b
+        else None) (key_none (at R s).node (at R i).node x (around R s i) (sees_own (at R i).node || held R i s)
         (is_name x (used_name (at R i).node)) e)))
 
     pub bound_more : x < length bs → (y : ℕ) → y < length bs
@@ -152,17 +164,20 @@ module _ (R : List Row) (s b x : ℕ) (bs : List (Option Bound)) (o : Option ℕ
             ∙ (own_scope s b
             ∙ sym (ap (λ k. option_or (in_scope s (get_or bs k None)) (if is_name y o then Some b else None)) e
             ∙ (ap (λ q. option_or q (if is_name y o then Some b else None)) free
-            ∙ (ap (λ q. if is_name y q then Some b else None) is ∙ ap (λ t. if t then Some b else None) (own_name x y e))))))
+            ∙ (ap (λ q. if is_name y q then Some b else None) is
+            ∙ ap (λ t. if t then Some b else None) (own_name x y e))))))
         by (inr e) =
             ap (in_scope s) (get_or-set_other bs x y (Some (record { scope = s; binder = b })) None e)
             ∙ sym (or_none (in_scope s (get_or bs y None)) (if is_name y o then Some b else None)
-            (ap (λ q. if is_name y q then Some b else None) is ∙ ap (λ t. if t then Some b else None) (other_name x y e)))
+            (ap (λ q. if is_name y q then Some b else None) is
+            ∙ ap (λ t. if t then Some b else None) (other_name x y e)))
 
 -- what a row that binds no name leaves
 pub bound_kept : (o : Option ℕ) (s b y : ℕ) (bs : List (Option Bound)) → o ≡ None → in_scope s (get_or bs y None)
     ≡ option_or (in_scope s (get_or bs y None)) (if is_name y o then Some b else None)
 bound_kept o s b y bs is =
-    sym (or_none (in_scope s (get_or bs y None)) (if is_name y o then Some b else None) (ap (λ q. if is_name y q then Some b else None) is))
+    sym (or_none (in_scope s (get_or bs y None)) (if is_name y o then Some b
+    else None) (ap (λ q. if is_name y q then Some b else None) is))
 
 -- the key by which the uses of a name are sought is one of those that are counted
 pub sought_below : (m : Node) (x k n : ℕ) → sought m x ≡ Some k → x < n → k < n + n

@@ -1,13 +1,18 @@
 -- One step along a chain, and the kind that is given to the rows on it.
-use Rattle.std.proofs.Common.{◌≡◌, ◌≢◌, ◌⊎◌, inl, inr, ◌+◌, ◌<◌, ◌≤◌, ℕ, List, [], ◌∷◌, ◌++◌, Option, get_or, set, length, refl, ap, sym, ◌∙◌, subst, arith}
+use Rattle.std.proofs.Common.{◌≡◌, ◌≢◌, ◌⊎◌, inl, inr, ◌+◌, ◌<◌, ◌≤◌, ℕ, List, [], ◌∷◌, ◌++◌, Option, get_or, set}
+use Rattle.std.proofs.Common.{length, refl, ap, sym, ◌∙◌, subst, arith}
 use Rattle.std.specs.Prelude.{None, Some, Bool, if◌then◌else◌, true, false}
 use Rattle.std.proofs.lemmas.Bool.{cases_eq, cases_lt}
-use Rattle.std.proofs.lemmas.List.{map-append, same_from_push, length_push, get_or_append_left, get_or_push, length-set, get_or-set_same, get_or-set_other}
+use Rattle.std.proofs.lemmas.List.{map-append, same_from_push, length_push, get_or_append_left, get_or_push, length-set}
+use Rattle.std.proofs.lemmas.List.{get_or-set_same, get_or-set_other}
 use Rattle.id_value.specs.declared.Kind.{Kind}
 use Rattle.id_value.specs.declared.Kind.TheVariants.{Int}
-use Rattle.id_check.specs.Kinds.{Link, Fixed, To, Within, Nowhere, EndsIn, in_kind, in_nothing, further, within, kind_within}
+use Rattle.id_check.specs.Kinds.{Link, Fixed, To, Within, Nowhere, EndsIn, in_kind, in_nothing, further, within}
+use Rattle.id_check.specs.Kinds.{kind_within}
 use Rattle.id_value.specs.List.{Among}
-use Rattle.id_check.specs.Chains.{IsKind, ends, endless, IsEnd, IsFilling, IsFound, IsGoing, IsPassing, IsState, IsTrail, begun, goes_on, goes_to, kind_of, link_of_pass, link_through, link_within, rows_of}
+use Rattle.id_check.specs.Chains.{IsKind, ends, endless, IsEnd, IsFilling, IsFound, IsGoing, IsPassing, IsState}
+use Rattle.id_check.specs.Chains.{IsTrail, begun, goes_on, goes_to, kind_of, link_of_pass, link_through, link_within}
+use Rattle.id_check.specs.Chains.{rows_of}
 use Rattle.id_check.specs.declared.kinds.Pass.{Pass}
 use Rattle.id_value.proofs.AmongLemmas.{Among-left, Among-right, Among-either, Among-one}
 
@@ -45,8 +50,8 @@ lead_within l p q e _ (ends h) = ends (within q e h)
 lead_within l p q e _ (endless h) = endless (λ o g. let w = after_within q g e in h w.0 w.1)
 
 -- a row that was passed has the kind that follows from that of the row behind it
-pub found_through : (l : ℕ → Link) (r q : ℕ) (b : Bool) (k : Link) → l r ≡ (if b then Within q else To q) → IsFound l q k
-    → IsFound l r (if b then link_within k else k)
+pub found_through : (l : ℕ → Link) (r q : ℕ) (b : Bool) (k : Link) → l r ≡ (if b then Within q else To q)
+    → IsFound l q k → IsFound l r (if b then link_within k else k)
 found_through l r q false k e f = record { is_end = f.is_end; kind = lead_one l r q e (kind_of k) f.kind }
 found_through l r q true k e f = record { is_end = tt; kind = lead_within l r q e (kind_of k) f.kind }
 
@@ -61,7 +66,8 @@ found_from l m i k (inl h) t = record { is_end = t; kind = kind_end l i k h.1 t 
 found_from l m i k (inr h) t = h
 
 -- a chain that stays in a list does not end
-closed_endless : (l : ℕ → Link) (ps : List ℕ) → ((p : ℕ) → Among p ps → (j : ℕ) × (goes_to (l p) ≡ Some j) × Among j ps) → (i : ℕ) (o : Option Kind) → EndsIn l i o →
+closed_endless : (l : ℕ → Link) (ps : List ℕ) → ((p : ℕ) → Among p ps → (j : ℕ) × (goes_to (l p) ≡ Some j) × Among j ps)
+    → (i : ℕ) (o : Option Kind) → EndsIn l i o →
     Among i ps → ⊥
 closed_endless l ps h i _ (in_kind k e) a = let w = h i a in let d : None ≡ Some w.0 = ap goes_to (sym e) ∙ w.1 in cc
 closed_endless l ps h i _ (in_nothing e) a = let w = h i a in let d : None ≡ Some w.0 = ap goes_to (sym e) ∙ w.1 in cc
@@ -81,14 +87,18 @@ rows_push : (ps : List Pass) (p : Pass) → rows_of (ps ++ p ∷ []) ≡ rows_of
 rows_push ps p = map-append (λ (x : Pass). x.row) ps (p ∷ [])
 
 pub row_left : (i : ℕ) (qs ps : List Pass) (p : Pass) → qs ≡ ps ++ p ∷ [] → Among i (rows_of ps) → Among i (rows_of qs)
-row_left i qs ps p e a = subst (Among i) (sym (ap rows_of e ∙ rows_push ps p)) (Among-left i (rows_of ps) (p.row ∷ []) a)
+row_left i qs ps p e a =
+    subst (Among i) (sym (ap rows_of e ∙ rows_push ps p)) (Among-left i (rows_of ps) (p.row ∷ []) a)
 
 pub row_last : (qs ps : List Pass) (p : Pass) → qs ≡ ps ++ p ∷ [] → Among p.row (rows_of qs)
-row_last qs ps p e = subst (Among p.row) (sym (ap rows_of e ∙ rows_push ps p)) (Among-right p.row (rows_of ps) (p.row ∷ []) (inl refl))
+row_last qs ps p e =
+    subst (Among p.row) (sym (ap rows_of e ∙ rows_push ps p)) (Among-right p.row (rows_of ps) (p.row ∷ []) (inl refl))
 
-pub row_either : (i : ℕ) (qs ps : List Pass) (p : Pass) → qs ≡ ps ++ p ∷ [] → Among i (rows_of qs) → Among i (rows_of ps) ⊎ (i ≡ p.row)
+pub row_either : (i : ℕ) (qs ps : List Pass) (p : Pass) → qs ≡ ps ++ p ∷ [] → Among i (rows_of qs)
+    → Among i (rows_of ps) ⊎ (i ≡ p.row)
 row_either i qs ps p e a =
-    elim (Among-either i (rows_of ps) (p.row ∷ []) (subst (Among i) (ap rows_of e ∙ rows_push ps p) a)) [ inl b ↦ inl b | inr b ↦ inr (Among-one i p.row b) ]
+    elim (Among-either i (rows_of ps) (p.row ∷ []) (subst (Among i) (ap rows_of e ∙ rows_push ps p) a))
+    [ inl b ↦ inl b | inr b ↦ inr (Among-one i p.row b) ]
 
 pass_to : (b : Bool) (q : ℕ) → goes_to (if b then Within q else To q) ≡ Some q
 pass_to false q = refl
@@ -99,7 +109,11 @@ closed_push : (l : ℕ → Link) (qs ps : List Pass) (r : Pass) (q p : ℕ) → 
     → Among p (rows_of ps) ⊎ (p ≡ r.row) → (j : ℕ) × (goes_to (l p) ≡ Some j) × (Among j (rows_of qs) ⊎ (j ≡ q))
 closed_push l qs ps r q p e s h (inl b) =
     let w = h b in
-    let there : Among w.0 (rows_of qs) = elim w.2 [ inl c ↦ row_left w.0 qs ps r e c | inr c ↦ subst (λ z. Among z (rows_of qs)) (sym c) (row_last qs ps r e) ] in
+    let there : Among w.0 (rows_of qs) =
+    elim w.2 [
+      | inl c ↦ row_left w.0 qs ps r e c
+      | inr c ↦ subst (λ z. Among z (rows_of qs)) (sym c) (row_last qs ps r e)
+    ] in
     (w.0, w.1, inl there)
 closed_push l qs ps r q p e s h (inr c) = (q, ap (λ z. goes_to (l z)) c ∙ ap goes_to s ∙ pass_to r.within q, inr refl)
 
@@ -107,18 +121,22 @@ closed_push l qs ps r q p e s h (inr c) = (q, ap (λ z. goes_to (l z)) c ∙ ap 
 closed_trail : (l : ℕ → Link) (ps : List Pass) (q : ℕ) → IsTrail l ps q → (p : ℕ) → Among p (rows_of ps)
     → (j : ℕ) × (goes_to (l p) ≡ Some j) × (Among j (rows_of ps) ⊎ (j ≡ q))
 closed_trail l _ q begun p a = absurd a
-closed_trail l qs q (goes_on ps r e t s) p a = closed_push l qs ps r q p e s (closed_trail l ps r.row t p) (row_either p qs ps r e a)
+closed_trail l qs q (goes_on ps r e t s) p a =
+    closed_push l qs ps r q p e s (closed_trail l ps r.row t p) (row_either p qs ps r e a)
 
 -- the link that a chain comes to gives the row there its kind
-pub met : (l : ℕ → Link) (n m : ℕ) (ps : List Pass) (q : ℕ) (ks : List Link) → IsPassing l n m ps q ks → IsEnd (get_or ks q Nowhere) →
+pub met : (l : ℕ → Link) (n m : ℕ) (ps : List Pass) (q : ℕ) (ks : List Link) → IsPassing l n m ps q ks
+    → IsEnd (get_or ks q Nowhere) →
     IsFound l q (get_or ks q Nowhere)
 met l n m ps q ks h t = at (h.states q h.next)
   where
-    at : IsState l m q (get_or ks q Nowhere) ⊎ (Among q (rows_of ps) × (get_or ks q Nowhere ≡ Fixed Int)) → IsFound l q (get_or ks q Nowhere)
+    at : IsState l m q (get_or ks q Nowhere) ⊎ (Among q (rows_of ps) × (get_or ks q Nowhere ≡ Fixed Int))
+        → IsFound l q (get_or ks q Nowhere)
     at (inl s) = found_from l m q (get_or ks q Nowhere) s t
     at (inr a) = subst (IsFound l q) (sym a.1) (record {
       is_end = tt;
-      kind = endless (λ o g. closed_endless l (rows_of ps) (λ p b. let w = closed_trail l ps q h.trail p b in (w.0, w.1, or_same w.0 q (rows_of ps) a.0 w.2)) q o g a.0);
+      kind = endless (λ o g. closed_endless l (rows_of ps) (λ p b. let w = closed_trail l ps q h.trail p b in
+          (w.0, w.1, or_same w.0 q (rows_of ps) a.0 w.2)) q o g a.0);
     })
 
 -- where a link goes on it does not end
@@ -129,13 +147,15 @@ ends_not (Within j) i e t = t
 ends_not Nowhere j e t = cc
 
 -- where a link goes on it is as it was
-as_it_was : (l : ℕ → Link) (m q j : ℕ) (ps : List ℕ) (k : Link) → IsState l m q k ⊎ (Among q ps × (k ≡ Fixed Int)) → goes_to k ≡ Some j → k ≡ l q
+as_it_was : (l : ℕ → Link) (m q j : ℕ) (ps : List ℕ) (k : Link) → IsState l m q k ⊎ (Among q ps × (k ≡ Fixed Int))
+    → goes_to k ≡ Some j → k ≡ l q
 as_it_was l m q j ps k (inl (inl h)) e = h.1
 as_it_was l m q j ps k (inl (inr h)) e = absurd (ends_not k j e h.is_end)
 as_it_was l m q j ps k (inr h) e = let d : None ≡ Some j = sym (ap goes_to h.1) ∙ e in cc
 
-pub passing_step : (l : ℕ → Link) (n m : ℕ) (ps : List Pass) (b : Bool) (q j : ℕ) (ks : List Link) → IsPassing l n m ps q ks
-    → goes_to (get_or ks q Nowhere) ≡ Some j → get_or ks q Nowhere ≡ link_of_pass (record { row = q; within = b }) j → j < n
+pub passing_step : (l : ℕ → Link) (n m : ℕ) (ps : List Pass) (b : Bool) (q j : ℕ) (ks : List Link)
+    → IsPassing l n m ps q ks → goes_to (get_or ks q Nowhere) ≡ Some j
+    → get_or ks q Nowhere ≡ link_of_pass (record { row = q; within = b }) j → j < n
     → IsPassing l n m (ps ++ record { row = q; within = b } ∷ []) j (set ks q (Fixed Int))
 passing_step l n m ps b q j ks h g e less = record {
   long = length-set ks q (Fixed Int) ∙ h.long;
@@ -158,8 +178,10 @@ passing_step l n m ps b q j ks h g e less = record {
     mine : Among q (rows_of qs)
     mine = row_last qs ps pass refl
 
-    state : (i : ℕ) → (i ≡ q) ⊎ (i ≢ q) → IsState l m i (get_or ks i Nowhere) ⊎ (Among i (rows_of ps) × (get_or ks i Nowhere ≡ Fixed Int))
-        → IsState l m i (get_or (set ks q (Fixed Int)) i Nowhere) ⊎ (Among i (rows_of qs) × (get_or (set ks q (Fixed Int)) i Nowhere ≡ Fixed Int))
+    state : (i : ℕ) → (i ≡ q) ⊎ (i ≢ q)
+        → IsState l m i (get_or ks i Nowhere) ⊎ (Among i (rows_of ps) × (get_or ks i Nowhere ≡ Fixed Int))
+        → IsState l m i (get_or (set ks q (Fixed Int)) i Nowhere)
+        ⊎ (Among i (rows_of qs) × (get_or (set ks q (Fixed Int)) i Nowhere ≡ Fixed Int))
     state i (inl c) s =
         let low : q < length ks = subst (λ z. q < z) (sym h.long) h.next in
         inr (
@@ -189,7 +211,8 @@ passing_start l n m ks less h = record {
 }
 
 -- the rows that were passed are to have the links that follow from the one that was met
-pub filling_start : (l : ℕ → Link) (n m : ℕ) (ps : List Pass) (q : ℕ) (ks : List Link) → IsPassing l n m ps q ks → IsEnd (get_or ks q Nowhere) →
+pub filling_start : (l : ℕ → Link) (n m : ℕ) (ps : List Pass) (q : ℕ) (ks : List Link) → IsPassing l n m ps q ks
+    → IsEnd (get_or ks q Nowhere) →
     IsFilling l n (m + 1) ps q (get_or ks q Nowhere) ks
 filling_start l n m ps q ks h t = record {
   long = h.long;
@@ -201,11 +224,13 @@ filling_start l n m ps q ks h t = record {
     it : IsFound l q (get_or ks q Nowhere)
     it = met l n m ps q ks h t
 
-    begin : (i : ℕ) → i ≡ m → (m ≡ q) ⊎ Among m (rows_of ps) → IsState l (m + 1) i (get_or ks i Nowhere) ⊎ Among i (rows_of ps)
+    begin : (i : ℕ) → i ≡ m → (m ≡ q) ⊎ Among m (rows_of ps)
+        → IsState l (m + 1) i (get_or ks i Nowhere) ⊎ Among i (rows_of ps)
     begin i e (inl c) = inl (inr (subst (λ z. IsFound l z (get_or ks z Nowhere)) (sym (e ∙ c)) it))
     begin i e (inr a) = inr (subst (λ z. Among z (rows_of ps)) (sym e) a)
 
-    state : (i : ℕ) → (i ≡ m) ⊎ (i ≢ m) → IsState l m i (get_or ks i Nowhere) ⊎ (Among i (rows_of ps) × (get_or ks i Nowhere ≡ Fixed Int)) →
+    state : (i : ℕ) → (i ≡ m) ⊎ (i ≢ m)
+        → IsState l m i (get_or ks i Nowhere) ⊎ (Among i (rows_of ps) × (get_or ks i Nowhere ≡ Fixed Int)) →
         IsState l (m + 1) i (get_or ks i Nowhere) ⊎ Among i (rows_of ps)
     state i (inl c) s = begin i c h.start
     state i (inr c) (inl (inl s)) = let low = s.0 in inl (inl (omega arith, s.1))
@@ -213,13 +238,17 @@ filling_start l n m ps q ks h t = record {
     state i (inr c) (inr s) = inr s.0
 
 -- the last of the rows that were passed, and those before it
-last_of : (l : ℕ → Link) (ps qs : List Pass) (p : Pass) (q : ℕ) → ps ≡ qs ++ p ∷ [] → IsTrail l ps q → IsTrail l qs p.row × (l p.row ≡ link_of_pass p q)
+last_of : (l : ℕ → Link) (ps qs : List Pass) (p : Pass) (q : ℕ) → ps ≡ qs ++ p ∷ [] → IsTrail l ps q
+    → IsTrail l qs p.row × (l p.row ≡ link_of_pass p q)
 last_of l _ qs p q e begun = let d : 0 ≡ length qs + 1 = ap length e ∙ length_push qs p in absurd (omega arith)
 last_of l ps qs p q e (goes_on rs r f t s) =
-    let same = same_from_push rs qs r p (sym f ∙ e) in
-    (subst (λ z. IsTrail l z p.row) same.0 (subst (λ (z : Pass). IsTrail l rs z.row) same.1 t), subst (λ (z : Pass). l z.row ≡ link_of_pass z q) same.1 s)
+    let same = same_from_push rs qs r p (sym f ∙ e) in (
+      subst (λ z. IsTrail l z p.row) same.0 (subst (λ (z : Pass). IsTrail l rs z.row) same.1 t),
+      subst (λ (z : Pass). l z.row ≡ link_of_pass z q) same.1 s,
+    )
 
-pub filling_step : (l : ℕ → Link) (n m : ℕ) (ps qs : List Pass) (p : Pass) (q : ℕ) (k : Link) (ks : List Link) → p.row < length ks → ps ≡ qs ++ p ∷ [] →
+pub filling_step : (l : ℕ → Link) (n m : ℕ) (ps qs : List Pass) (p : Pass) (q : ℕ) (k : Link) (ks : List Link)
+    → p.row < length ks → ps ≡ qs ++ p ∷ [] →
     IsFilling l n m ps q k ks → IsFilling l n m qs p.row (link_through p k) (set ks p.row (link_through p k))
 filling_step l n m ps qs p q k ks less e h = record {
   long = length-set ks p.row on ∙ h.long;
@@ -245,7 +274,8 @@ filling_step l n m ps qs p q k ks less e h = record {
     state i (inr c) (inr a) = elim (row_either i ps qs p e a) [ inl b ↦ inr b | inr b ↦ absurd (c b) ]
 
 pub filling_end : (l : ℕ → Link) (n m q : ℕ) (k : Link) (ks : List Link) → IsFilling l n m [] q k ks → IsGoing l n m ks
-filling_end l n m q k ks h = record { long = h.long; states = λ i b. elim (h.states i b) [ inl s ↦ s | inr a ↦ absurd a ] }
+filling_end l n m q k ks h =
+    record { long = h.long; states = λ i b. elim (h.states i b) [ inl s ↦ s | inr a ↦ absurd a ] }
 
 ends_once : {l : ℕ → Link} {i : ℕ} {o p : Option Kind} → EndsIn l i o → EndsIn l i p → o ≡ p
 ends_once (in_kind k e) (in_kind m f) = let d : Fixed k ≡ Fixed m = sym e ∙ f in cc
@@ -268,8 +298,8 @@ IsKind-once (endless g) (endless h) = refl
 
 -- what a chain comes to in one step, if that is known
 pub IsState-after : (l : ℕ → Link) (i j : ℕ) (x k : Link) (b : Bool) → l i ≡ x
-    → ((q : ℕ) → goes_to x ≡ Some q → (r : ℕ) → x ≡ link_of_pass (record { row = r; within = b }) q) → goes_to x ≡ Some j → IsState l 0 j k → IsEnd k
-    → IsState l 0 i (if b then link_within k else k)
+    → ((q : ℕ) → goes_to x ≡ Some q → (r : ℕ) → x ≡ link_of_pass (record { row = r; within = b }) q)
+    → goes_to x ≡ Some j → IsState l 0 j k → IsEnd k → IsState l 0 i (if b then link_within k else k)
 IsState-after l i j x k b e h g s t = inr (found_through l i j b k (e ∙ h j g i) (found_from l 0 j k s t))
 
 -- the kind of a row that is settled
@@ -278,30 +308,36 @@ kind_settled l i k (inl s) = let low = s.0 in absurd (omega arith)
 kind_settled l i k (inr s) = s.kind
 
 -- one more row of which it is known where its chain goes on, or what it comes to
-pub IsGoing-push : (l : ℕ → Link) (n : ℕ) (ks js : List Link) (k : Link) → js ≡ ks ++ k ∷ [] → IsGoing l n 0 ks → IsState l 0 n k → IsGoing l (n + 1) 0 js
+pub IsGoing-push : (l : ℕ → Link) (n : ℕ) (ks js : List Link) (k : Link) → js ≡ ks ++ k ∷ [] → IsGoing l n 0 ks
+    → IsState l 0 n k → IsGoing l (n + 1) 0 js
 IsGoing-push l n ks js k e h s = record {
   long = ap length e ∙ length_push ks k ∙ ap (λ m. m + 1) h.long;
   states = λ i b. subst (λ zs. IsState l 0 i (get_or zs i Nowhere)) (sym e) (by i b (cases_lt i n));
 }
   where
     by : (i : ℕ) → i < n + 1 → (i < n) ⊎ (n ≤ i) → IsState l 0 i (get_or (ks ++ k ∷ []) i Nowhere)
-    by i b (inl c) = subst (IsState l 0 i) (sym (get_or_append_left ks (k ∷ []) Nowhere i (omega (arith, h.long)))) (h.states i c)
+    by i b (inl c) =
+        subst (IsState l 0 i) (sym (get_or_append_left ks (k ∷ []) Nowhere i (omega (arith, h.long)))) (h.states i c)
     by i b (inr c) =
         let same : i ≡ n = omega arith in
-        subst (IsState l 0 i) (sym (get_or_push ks k Nowhere i (omega (arith, h.long)))) (subst (λ z. IsState l 0 z k) (sym same) s)
+        subst (IsState l 0 i) (sym (get_or_push ks k Nowhere i (omega (arith, h.long))))
+        (subst (λ z. IsState l 0 z k) (sym same) s)
 
 -- where a row's link goes on it is as it was
-pub targets_state : (l : ℕ → Link) (m i j : ℕ) (k : Link) → IsState l m i k → goes_to k ≡ Some j → goes_to (l i) ≡ Some j
+pub targets_state : (l : ℕ → Link) (m i j : ℕ) (k : Link) → IsState l m i k → goes_to k ≡ Some j
+    → goes_to (l i) ≡ Some j
 targets_state l m i j k (inl h) e = sym (ap goes_to h.1) ∙ e
 targets_state l m i j k (inr h) e = absurd (ends_not k j e h.is_end)
 
 -- the kind of one more row is known
-pub IsKind-push : (l : ℕ → Link) (n : ℕ) (xs ys : List (Option Kind)) (o : Option Kind) → length xs ≡ n → ys ≡ xs ++ o ∷ [] → IsKind l n o
-    → ((i : ℕ) → i < n → IsKind l i (get_or xs i None)) → (i : ℕ) → i < n + 1 → IsKind l i (get_or ys i None)
+pub IsKind-push : (l : ℕ → Link) (n : ℕ) (xs ys : List (Option Kind)) (o : Option Kind) → length xs ≡ n
+    → ys ≡ xs ++ o ∷ [] → IsKind l n o → ((i : ℕ) → i < n → IsKind l i (get_or xs i None)) → (i : ℕ) → i < n + 1
+    → IsKind l i (get_or ys i None)
 IsKind-push l n xs ys o long e k h i less = subst (λ zs. IsKind l i (get_or zs i None)) (sym e) (by (cases_lt i n))
   where
     by : (i < n) ⊎ (n ≤ i) → IsKind l i (get_or (xs ++ o ∷ []) i None)
     by (inl c) = subst (IsKind l i) (sym (get_or_append_left xs (o ∷ []) None i (omega (arith, long)))) (h i c)
     by (inr c) =
         let same : i ≡ n = omega arith in
-        subst (IsKind l i) (sym (get_or_push xs o None i (omega (arith, long)))) (subst (λ z. IsKind l z o) (sym same) k)
+        subst (IsKind l i) (sym (get_or_push xs o None i (omega (arith, long))))
+        (subst (λ z. IsKind l z o) (sym same) k)

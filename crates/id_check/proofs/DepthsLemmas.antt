@@ -12,7 +12,8 @@ use Rattle.id_table.specs.Tables.{AreInBlocks}
 use Rattle.id_check.specs.Depths.{AreDepths}
 
 -- where a block's head is below two bounds, as many loops are counted up to either
-loops_more : (R : List Row) → AreInBlocks R → (h j k : ℕ) → h < length R → h < j → h < k → loops_from R j (at R h).node ≡ loops_from R k (at R h).node
+loops_more : (R : List Row) → AreInBlocks R → (h j k : ℕ) → h < length R → h < j → h < k
+    → loops_from R j (at R h).node ≡ loops_from R k (at R h).node
 loops_more R a h zero k less low high = absurd (omega arith)
 loops_more R a h (suc j) zero less low high = absurd (omega arith)
 loops_more R a h (suc j) (suc k) less low high = by (at R h).node refl (λ t b c d. loops_more R a t j k b c d)
@@ -35,7 +36,8 @@ loops_low R a h zero less = by (at R h).node
     by _ = omega arith
 loops_low R a h (suc k) less = by (at R h).node refl (λ t b. loops_low R a t k b)
   where
-    by : (n : Node) → (at R h).node ≡ n → ((t : ℕ) → t < length R → loops_from R k (at R t).node ≤ t) → loops_from R (suc k) n ≤ h
+    by : (n : Node) → (at R h).node ≡ n → ((t : ℕ) → t < length R → loops_from R k (at R t).node ≤ t)
+        → loops_from R (suc k) n ≤ h
     by (LoopHead s) e r =
         let c = a.start h s less e in
         let d = a.head s (omega arith) in
@@ -44,9 +46,11 @@ loops_low R a h (suc k) less = by (at R h).node refl (λ t b. loops_low R a t k 
     by _ e r = omega arith
 
 depth_low : (R : List Row) (i : ℕ) → AreInBlocks R → i < length R → depth R i ≤ i
-depth_low R i a less = let d = a.head i less in let e = loops_low R a (at R i).block (length R) (omega arith) in omega arith
+depth_low R i a less =
+    let d = a.head i less in let e = loops_low R a (at R i).block (length R) (omega arith) in omega arith
 
-depth_loop_in : (R : List Row) (i s : ℕ) → AreInBlocks R → i < length R → (at R (at R i).block).node ≡ LoopHead s → (s < i) × (depth R i ≡ suc (depth R s))
+depth_loop_in : (R : List Row) (i s : ℕ) → AreInBlocks R → i < length R → (at R (at R i).block).node ≡ LoopHead s
+    → (s < i) × (depth R i ≡ suc (depth R s))
 depth_loop_in R i s a less e = by (length R) refl
   where
     low : (at R i).block ≤ i
@@ -81,7 +85,8 @@ depth_loop R i s a e = by (cases_lt i (length R))
 
         first : (0 < length R) ⊎ (length R ≤ 0) → ⊥
         first (inl some) = let low = a.start 0 s some outside in absurd (omega (arith, low))
-        first (inr none) = let d : Head ≡ LoopHead s = sym (ap (λ (r : Row). r.node) (get_or_past R 0 no_row none)) ∙ outside in cc
+        first (inr none) =
+            let d : Head ≡ LoopHead s = sym (ap (λ (r : Row). r.node) (get_or_past R 0 no_row none)) ∙ outside in cc
 
 -- a row of any other block is in none
 loops_none : (R : List Row) (k : ℕ) (n : Node) → ((s : ℕ) → n ≡ LoopHead s → ⊥) → loops_from R k n ≡ 0
@@ -95,7 +100,8 @@ depth_none R i h = loops_none R (length R) (at R (at R i).block).node h
 
 -- ---- the column
 
-pub depths_more : (R : List Row) (n d : ℕ) (ds : List ℕ) → d ≡ depth R n → AreDepths R n ds → AreDepths R (n + 1) (ds ++ d ∷ [])
+pub depths_more : (R : List Row) (n d : ℕ) (ds : List ℕ) → d ≡ depth R n → AreDepths R n ds
+    → AreDepths R (n + 1) (ds ++ d ∷ [])
 depths_more R n d ds e h = record {
   long = length_push ds d ∙ ap (λ k. k + 1) h.long;
   each = λ i less. by i less (cases_lt i n);

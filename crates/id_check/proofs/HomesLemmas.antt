@@ -11,7 +11,8 @@ use Rattle.id_table.specs.declared.row.Node.{Node}
 use Rattle.id_table.specs.declared.row.Node.TheVariants.{Head, Param, Name, Block, Binding, Def, Start, LoopHead}
 use Rattle.id_table.specs.declared.row.Node.TheVariants.{Count, Index, NextUse, Next, Body, Span, Loop}
 use Rattle.id_table.specs.Rows.{arm_at, at, top}
-use Rattle.id_table.specs.Tables.{around, has_statements, is_head, is_index, is_next, is_param, is_split, is_statement, is_switches, is_top}
+use Rattle.id_table.specs.Tables.{around, has_statements, is_head, is_index, is_next, is_param, is_split, is_statement}
+use Rattle.id_table.specs.Tables.{is_switches, is_top}
 use Rattle.id_table.specs.Loops.{InSide, IsBody, IsLoop, IsLoopOf, IsTurn, StandsInSide, behind_count, index_row, right}
 use Rattle.id_table.specs.Regions.{Lies, StandsInArm, here, in_arm, in_loop, in_side}
 use Rattle.id_table.specs.Turns.{AreParamsOf, IsTable, in_block}
@@ -63,14 +64,17 @@ held_from R b n (suc s) less e = by (cases_lt n s) (λ c. held_from R b n s c e)
   where
     by : (n < s) ⊎ (s ≤ n) → (n < s → held R b s ≡ true) → held R b (suc s) ≡ true
     by (inl c) r = or_left (held R b s) (confines R s b) (r c)
-    by (inr c) r = let same : n ≡ s = omega arith in or_right (held R b s) (confines R s b) (subst (λ k. confines R k b ≡ true) same e)
+    by (inr c) r =
+        let same : n ≡ s =
+        omega arith in or_right (held R b s) (confines R s b) (subst (λ k. confines R k b ≡ true) same e)
 
 -- what is held has such a scope
 held_by : (R : List Row) (b s : ℕ) → held R b s ≡ true → (n : ℕ) × (n < s) × (confines R n b ≡ true)
 held_by R b zero e = absurd (false≢true e)
 held_by R b (suc s) e = by (held R b s) refl e (held_by R b s)
   where
-    by : (t : Truth) → held R b s ≡ t → (t || confines R s b) ≡ true → (held R b s ≡ true → (n : ℕ) × (n < s) × (confines R n b ≡ true))
+    by : (t : Truth) → held R b s ≡ t → (t || confines R s b) ≡ true
+        → (held R b s ≡ true → (n : ℕ) × (n < s) × (confines R n b ≡ true))
         → (n : ℕ) × (n < suc s) × (confines R n b ≡ true)
     by true f g r = let w = r f in let c = w.1 in (w.0, omega arith, w.2)
     by false f g r = (s, omega arith, g)
@@ -157,7 +161,8 @@ module _ (R : List Row) (t : IsTable R) where
       ap (λ k. (at R k).first) (sym same) ∙ span_first n h c
 
   -- a row behind a loop's `Start` stands behind its head, or is that
-  head_before : (n h : ℕ) (c : IsLoopOf R n h) (i : ℕ) → (t.loop_is n h c).start ≤ i → ((at R i).node ≡ Start → ⊥) → h ≤ i
+  head_before : (n h : ℕ) (c : IsLoopOf R n h) (i : ℕ) → (t.loop_is n h c).start ≤ i → ((at R i).node ≡ Start → ⊥)
+      → h ≤ i
   head_before n h c i low other = by (cases_lt (t.loop_is n h c).start i)
     where
       by : ((t.loop_is n h c).start < i) ⊎ (i ≤ (t.loop_is n h c).start) → h ≤ i
@@ -185,8 +190,9 @@ module _ (R : List Row) (t : IsTable R) where
   ]
 
   -- what is seen where a loop's variable is stands in the loop
-  next_inside : (s b i x k o v : ℕ) → (at R b).node ≡ Next x k o v → b < length R → s < length R → around R s b ≡ true → held R b s ≡ false
-      → around R s i ≡ true → ((at R i).node ≡ Start → ⊥) → Lies R (top (at R b).block) (at R i).region
+  next_inside : (s b i x k o v : ℕ) → (at R b).node ≡ Next x k o v → b < length R → s < length R → around R s b ≡ true
+      → held R b s ≡ false → around R s i ≡ true → ((at R i).node ≡ Start → ⊥)
+      → Lies R (top (at R b).block) (at R i).region
   next_inside s b i x k o v e less within inside bare round other =
       let q = t.next_in b (at R b).block k x (record { outer = o; value = v; within = less; block = refl; node = e }) in
       let n = q.0 in
@@ -200,8 +206,10 @@ module _ (R : List Row) (t : IsTable R) where
       let behind = (q.2).behind in
       let below : b < m = before m behind ends node in
       let low : (at R b).block ≤ b = (t.block b (omega arith)).0 in
-      let shuts : closes (at R m).node (at R b).node ≡ true = ap (λ z. closes z (at R b).node) node ∙ ap (closes Span) e in
-      let own : confines R m b ≡ true = and_is (closes (at R m).node (at R b).node) (around R m b) shuts (around_is R m b (omega arith) below) in
+      let shuts : closes (at R m).node (at R b).node ≡ true =
+      ap (λ z. closes z (at R b).node) node ∙ ap (closes Span) e in
+      let own : confines R m b ≡ true =
+      and_is (closes (at R m).node (at R b).node) (around R m b) shuts (around_is R m b (omega arith) below) in
       let outer : s ≤ m = not_before m s b bare own in
       let j = around_below R s b inside in
       let out : (at R m).first ≤ (at R s).first = outside m s (omega arith) (omega arith) outer in
@@ -217,8 +225,8 @@ module _ (R : List Row) (t : IsTable R) where
       ]
 
   -- a loop with the use of a first value in it is the one whose variable has that, or round it
-  own_loop_first : (o x n m h : ℕ) → (at R o).node ≡ NextUse x → o + 1 < length R → IsLoopOf R n (at R o).block → o < n → (d : IsLoopOf R m h)
-      → (t.loop_is m h d).start ≤ o → o + 1 < m → n ≤ m
+  own_loop_first : (o x n m h : ℕ) → (at R o).node ≡ NextUse x → o + 1 < length R → IsLoopOf R n (at R o).block → o < n
+      → (d : IsLoopOf R m h) → (t.loop_is m h d).start ≤ o → o + 1 < m → n ≤ m
   own_loop_first o x n m h e less c below d round inside = elim (cases_lt m n) [
     | inl f ↦ absurd (never f)
     | inr f ↦ f
@@ -252,13 +260,16 @@ module _ (R : List Row) (t : IsTable R) where
           omega arith
 
   -- a scope that the use of a first value sees is round its loop
-  pub seen_outside : (o x n s : ℕ) → (at R o).node ≡ NextUse x → o + 1 < length R → IsLoopOf R n (at R o).block → o < n → s < length R
-      → looks (at R s).node (NextUse x) ≡ true → around R s o ≡ true → (sees_own (NextUse x) || held R o s) ≡ true → around R s n ≡ true
+  pub seen_outside : (o x n s : ℕ) → (at R o).node ≡ NextUse x → o + 1 < length R → IsLoopOf R n (at R o).block → o < n
+      → s < length R → looks (at R s).node (NextUse x) ≡ true → around R s o ≡ true
+      → (sees_own (NextUse x) || held R o s) ≡ true → around R s n ≡ true
   seen_outside o x n s e less c below in_rows look round out =
       let w = held_by R o s out in
       let m = w.0 in
       let before = w.1 in
-      let span = closing_span (at R m).node x (sym (ap (closes (at R m).node) e) ∙ and_first (closes (at R m).node (at R o).node) (around R m o) w.2) in
+      let span =
+      closing_span (at R m).node x (sym (ap (closes (at R m).node) e)
+      ∙ and_first (closes (at R m).node (at R o).node) (around R m o) w.2) in
       let inside = and_second (closes (at R m).node (at R o).node) (around R m o) w.2 in
       let from = around_from R m o inside in
       let to = around_below R m o inside in
@@ -277,7 +288,8 @@ module _ (R : List Row) (t : IsTable R) where
       no_loop f = elim (cases_lt n s) [
         | inl g ↦ g
         | inr g ↦ let same : s ≡ n = omega arith in
-            absurd (false≢true (sym (ap (λ k. looks (at R k).node (NextUse x)) same ∙ ap (λ m. looks m (NextUse x)) c.node) ∙ look))
+            absurd (false≢true
+            (sym (ap (λ k. looks (at R k).node (NextUse x)) same ∙ ap (λ m. looks m (NextUse x)) c.node) ∙ look))
       ]
 
   -- ---- where an index stands
@@ -317,7 +329,8 @@ module _ (R : List Row) (t : IsTable R) where
 
   -- an index stands right in the body of its loop
   module _ (b x : ℕ) (e : (at R b).node ≡ Index x) (less : b < length R) where
-    abbrev index_loop : (n : ℕ) × (c : IsLoopOf R n (at R b).block) × ((t.loop_is n (at R b).block c).carried ≡ 3) × (index_row c.switches ≡ b)
+    abbrev index_loop : (n : ℕ) × (c : IsLoopOf R n (at R b).block) × ((t.loop_is n (at R b).block c).carried ≡ 3)
+        × (index_row c.switches ≡ b)
     index_loop = t.index_of b x less e
 
     abbrev h : ℕ
@@ -365,7 +378,10 @@ module _ (R : List Row) (t : IsTable R) where
     ]
       where
         at_split : {m : Node} {s : ℕ} (k : StandsInArm R b) → k.split ≡ s → (at R s).node ≡ m → is_split m ≡ false → ⊥
-        at_split k f g j = false≢true (sym (sym (ap is_split ((t.split_of k.row k.split k.conditional).node)) ∙ ap (λ z. is_split (at R z).node) f ∙ ap is_split g ∙ j))
+        at_split k f g j =
+            false≢true
+            (sym (sym (ap is_split ((t.split_of k.row k.split k.conditional).node)) ∙ ap (λ z. is_split (at R z).node) f
+            ∙ ap is_split g ∙ j))
 
         in_no_arm : StandsInArm R b → ⊥
         in_no_arm k =
@@ -388,18 +404,20 @@ module _ (R : List Row) (t : IsTable R) where
             same : (k.loop).switches ≡ c.switches
             same = ap (switches_or 0) (sym (k.loop).node ∙ ap (λ z. (at R z).node) same_row ∙ c.node)
 
-            of : (a : Truth) → k.side ≡ a → (at R b).region ≡ arm_at (k.loop).switches k.side → InSide (k.loop).switches k.body k.row k.side b
-                → (at R b).region ≡ arm_at c.switches true
+            of : (a : Truth) → k.side ≡ a → (at R b).region ≡ arm_at (k.loop).switches k.side
+                → InSide (k.loop).switches k.body k.row k.side b → (at R b).region ≡ arm_at c.switches true
             of true g j m = j ∙ ap (λ z. arm_at z k.side) same ∙ ap (arm_at c.switches) g
             of false g j m =
                 let behind : k.body < b = (subst (λ z. InSide (k.loop).switches k.body k.row z b) g m).0 in
                 let low = (k.body_is).low in
                 let turn = turn_low (k.body_is).turns in
                 let at_turn : k.body ≡ l.turn = omega (arith, behind, low, turn, same, counts.0, index_is) in
-                absurd (false≢true (ap has_statements (sym (l.body_is).turn ∙ ap (λ z. (at R z).node) (sym at_turn) ∙ (k.body_is).node)))
+                absurd (false≢true
+                (ap has_statements (sym (l.body_is).turn ∙ ap (λ z. (at R z).node) (sym at_turn) ∙ (k.body_is).node)))
 
     -- what is seen where an index is stands in the body
-    index_inside : (s i : ℕ) → s < length R → around R s b ≡ true → held R b s ≡ false → around R s i ≡ true → Lies R (at R b).region (at R i).region
+    index_inside : (s i : ℕ) → s < length R → around R s b ≡ true → held R b s ≡ false → around R s i ≡ true
+        → Lies R (at R b).region (at R i).region
     index_inside s i within inside bare round =
         let d = l.body in
         let first = index_first in
@@ -407,8 +425,10 @@ module _ (R : List Row) (t : IsTable R) where
         let in_rows = c.within in
         let behind = (l.last_is).low in
         let ends = (l.last_is).ends in
-        let shuts : closes (at R d).node (at R b).node ≡ true = ap (λ z. closes z (at R b).node) (l.body_is).node ∙ ap (closes Body) e in
-        let own : confines R d b ≡ true = and_is (closes (at R d).node (at R b).node) (around R d b) shuts (around_is R d b (omega arith) below) in
+        let shuts : closes (at R d).node (at R b).node ≡ true =
+        ap (λ z. closes z (at R b).node) (l.body_is).node ∙ ap (closes Body) e in
+        let own : confines R d b ≡ true =
+        and_is (closes (at R d).node (at R b).node) (around R d b) shuts (around_is R d b (omega arith) below) in
         let outer : s ≤ d = not_before d s b bare own in
         let j = around_below R s b inside in
         let out : (at R d).first ≤ (at R s).first = outside d s (omega arith) (omega arith) outer in
@@ -439,8 +459,8 @@ module _ (R : List Row) (t : IsTable R) where
       from r (in_side {w = s} w f m) g = absurd (no_side s f (ap (λ (z : Region). z.head) g))
 
   -- a parameter in a definition stands where that does
-  param_home : (s b y h c z : ℕ) (q k : Kind) → (at R s).node ≡ Def y h q c → (at R b).node ≡ Param z k → s < length R → b < length R → around R s b ≡ true
-      → s + 1 < length R
+  param_home : (s b y h c z : ℕ) (q k : Kind) → (at R s).node ≡ Def y h q c → (at R b).node ≡ Param z k → s < length R
+      → b < length R → around R s b ≡ true → s + 1 < length R
       → (at R s).region ≡ (at R b).region
   param_home s b y h c z q k f g less within inside inner =
       let d = t.head_is s y h c q less f in
@@ -456,7 +476,8 @@ module _ (R : List Row) (t : IsTable R) where
       strictly : h ≤ b → (at R h).node ≡ Head → h < b
       strictly l e = elim (cases_lt h b) [
         | inl m ↦ m
-        | inr m ↦ let same : b ≡ h = omega arith in absurd (false≢true (sym (ap is_param (ap (λ k. (at R k).node) same ∙ e)) ∙ ap is_param g))
+        | inr m ↦ let same : b ≡ h =
+            omega arith in absurd (false≢true (sym (ap is_param (ap (λ k. (at R k).node) same ∙ e)) ∙ ap is_param g))
       ]
 
       own : (p : AreParamsOf R h s) → h < b → b < s → (at R b).block ≡ h
@@ -467,8 +488,9 @@ module _ (R : List Row) (t : IsTable R) where
 
   -- ---- what a scope binds is at home round what stands in the scope
 
-  statement_home : (s b i y a : ℕ) → s < length R → has_statements (at R s).node ≡ true → (at R b).node ≡ Binding y a → around R s b ≡ true → held R b s ≡ false
-      → s + 1 < length R → around R s i ≡ true → Lies R (home R b) (at R i).region
+  statement_home : (s b i y a : ℕ) → s < length R → has_statements (at R s).node ≡ true → (at R b).node ≡ Binding y a
+      → around R s b ≡ true → held R b s ≡ false → s + 1 < length R → around R s i ≡ true
+      → Lies R (home R b) (at R i).region
   statement_home s b i y a less e f inside bare inner round =
       let w = t.statement_stands s b less (record {
         block = e;
@@ -476,12 +498,15 @@ module _ (R : List Row) (t : IsTable R) where
         inside = inside;
         right = sym (held_binding R b s y a f) ∙ bare;
       }) in
-      subst (λ r. Lies R r (at R i).region) (sym (w.1) ∙ sym (ap (home_in (at R b).block (at R b).region) f)) (t.inside s i inner round)
+      subst (λ r. Lies R r (at R i).region) (sym (w.1) ∙ sym (ap (home_in (at R b).block (at R b).region) f))
+      (t.inside s i inner round)
 
-  pub bound_home : (s b i x : ℕ) → s + 1 < length R → looks (at R s).node (Name 0) ≡ true → takes (at R s).node (at R b).node ≡ true
-      → bound_name (at R b).node ≡ Some x
-      → around R s b ≡ true → held R b s ≡ false → around R s i ≡ true → ((at R i).node ≡ Start → ⊥) → Lies R (home R b) (at R i).region
-  bound_home s b i x inner look take name inside bare round other = by (at R s).node (at R b).node refl refl look take name
+  pub bound_home : (s b i x : ℕ) → s + 1 < length R → looks (at R s).node (Name 0) ≡ true
+      → takes (at R s).node (at R b).node ≡ true → bound_name (at R b).node ≡ Some x
+      → around R s b ≡ true → held R b s ≡ false → around R s i ≡ true → ((at R i).node ≡ Start → ⊥)
+      → Lies R (home R b) (at R i).region
+  bound_home s b i x inner look take name inside bare round other =
+      by (at R s).node (at R b).node refl refl look take name
     where
       less : s < length R
       less = omega arith
@@ -494,16 +519,20 @@ module _ (R : List Row) (t : IsTable R) where
           subst (λ r. Lies R r (at R i).region) (sym (ap (home_in (at R b).block (at R b).region) f))
           (next_inside s b i y k o v f within less inside bare round other)
 
-      by : (m n : Node) → (at R s).node ≡ m → (at R b).node ≡ n → looks m (Name 0) ≡ true → takes m n ≡ true → bound_name n ≡ Some x
-          → Lies R (home R b) (at R i).region
-      by (Block c) (Binding y a) f g l k j = statement_home s b i y a less (ap has_statements f) g inside bare inner round
+      by : (m n : Node) → (at R s).node ≡ m → (at R b).node ≡ n → looks m (Name 0) ≡ true → takes m n ≡ true
+          → bound_name n ≡ Some x → Lies R (home R b) (at R i).region
+      by (Block c) (Binding y a) f g l k j =
+          statement_home s b i y a less (ap has_statements f) g inside bare inner round
       by Body (Binding y a) f g l k j = statement_home s b i y a less (ap has_statements f) g inside bare inner round
       by Body (Next y k o v) f g l e j = next y k o v g
       by Body (Index y) f g l e j =
-          subst (λ r. Lies R r (at R i).region) (sym (ap (home_in (at R b).block (at R b).region) g)) (index_inside b y g within s i less inside bare round)
+          subst (λ r. Lies R r (at R i).region) (sym (ap (home_in (at R b).block (at R b).region) g))
+          (index_inside b y g within s i less inside bare round)
       by Span (Next y k o v) f g l e j = next y k o v g
       by (Def y h q c) (Param z k) f g l e j =
-          let here = param_home s b y h c z q k f g less within inside inner ∙ sym (ap (home_in (at R b).block (at R b).region) g) in
+          let here =
+          param_home s b y h c z q k f g less within inside inner
+          ∙ sym (ap (home_in (at R b).block (at R b).region) g) in
           subst (λ r. Lies R r (at R i).region) here (t.inside s i inner round)
       by (Block c) n f g l k j = absurd (false≢true k)
       by Body n f g l k j = absurd (false≢true k)

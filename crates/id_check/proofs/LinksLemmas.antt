@@ -2,8 +2,10 @@
 use Rattle.std.proofs.Common.{◌≡◌, ◌<◌, inl, inr, ℕ, List, Option, Some, None, length, refl, sym, subst, arith}
 use Rattle.id_table.specs.declared.row.Row.{Row}
 use Rattle.id_table.specs.declared.row.Node.{Node}
-use Rattle.id_table.specs.declared.row.Node.TheVariants.{Head, Param, Literal, Name, Unary, Binary, Split, If, Enter, Arg, Call, Block, Binding, Def, Program}
-use Rattle.id_table.specs.declared.row.Node.TheVariants.{Start, LoopHead, Variable, Entries, Switches, Turn, NextUse, Next, Body, Reset, Loop}
+use Rattle.id_table.specs.declared.row.Node.TheVariants.{Head, Param, Literal, Name, Unary, Binary, Split, If, Enter}
+use Rattle.id_table.specs.declared.row.Node.TheVariants.{Arg, Call, Block, Binding, Def, Program}
+use Rattle.id_table.specs.declared.row.Node.TheVariants.{Start, LoopHead, Variable, Entries, Switches, Turn, NextUse}
+use Rattle.id_table.specs.declared.row.Node.TheVariants.{Next, Body, Reset, Loop}
 use Rattle.id_table.specs.declared.row.Node.TheVariants.{Bounds, Carried, Within, Count, Index, Span}
 use Rattle.id_table.specs.declared.row.Node.TheVariants.{Fetch, Address, Store}
 use Rattle.id_table.specs.declared.row.Node.TheVariants as node
@@ -14,7 +16,8 @@ use Rattle.id_check.specs.Kinds.{link_at, link_of, link_of_name}
 use Rattle.id_check.specs.Chains.{goes_to}
 
 -- a part of a row is a row
-pub part_of : {R : List Row} {i : ℕ} {n : Node} (a : ℕ) → IsFormed R → i < length R → (at R i).node ≡ n → HasPart n a → a < length R
+pub part_of : {R : List Row} {i : ℕ} {n : Node} (a : ℕ) → IsFormed R → i < length R → (at R i).node ≡ n → HasPart n a
+    → a < length R
 part_of {R} {i} {n} a t less s h =
     let low = ((t.each i less).parts a (subst (λ z. HasPart z a) (sym s) h)).1 in
     omega arith
@@ -36,7 +39,8 @@ user_below R i t less = of (at R i).node refl
     of (Next x k o v) s = part_of o t less s (inl refl)
     of _ s = less
 
-pub link_below : (R : List Row) (β : ℕ → Option ℕ) → IsFormed R → ((i b : ℕ) → i < length R → β i ≡ Some b → b < length R)
+pub link_below : (R : List Row) (β : ℕ → Option ℕ) → IsFormed R
+    → ((i b : ℕ) → i < length R → β i ≡ Some b → b < length R)
     → (i j : ℕ) → i < length R → goes_to (link_at R β i) ≡ Some j → j < length R
 link_below R β t within i j less e = of (at R i).node refl e
   where

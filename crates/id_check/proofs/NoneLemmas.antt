@@ -1,5 +1,6 @@
 -- Before any row is passed, no name has a binder, and no use waits for one.
-use Rattle.std.proofs.Common.{◌≡◌, ◌<◌, ◌≤◌, ◌⊎◌, inl, inr, ℕ, List, Option, None, get_or, length, replicate, sym, ap, subst, ◌∙◌, arith}
+use Rattle.std.proofs.Common.{◌≡◌, ◌<◌, ◌≤◌, ◌⊎◌, inl, inr, ℕ, List, Option, None, get_or, length, replicate, sym, ap}
+use Rattle.std.proofs.Common.{subst, ◌∙◌, arith}
 use Rattle.std.proofs.lemmas.Bool.{cases_lt}
 use Rattle.std.proofs.lemmas.List.{get_or-replicate, get_or_past, length-replicate}
 use Rattle.id_table.specs.declared.row.Row.{Row}
@@ -19,7 +20,8 @@ bound_none R os e = record {
   each = λ i less. all_same os (length R) i None e ∙ sym (binder_at-none R 0 i (omega arith));
 }
 
-pub waiting_none : (R : List Row) (m : ℕ) (os ls es : List (Option ℕ)) → os ≡ replicate (length R) None → ls ≡ replicate m None → es ≡ replicate (length R) None
+pub waiting_none : (R : List Row) (m : ℕ) (os ls es : List (Option ℕ)) → os ≡ replicate (length R) None
+    → ls ≡ replicate m None → es ≡ replicate (length R) None
     → AreWaiting R 0 m os ls es
 waiting_none R m os ls es e f g = record {
   long_binders = ap length e ∙ length-replicate (length R) None;

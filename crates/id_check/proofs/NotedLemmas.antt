@@ -13,5 +13,6 @@ IsProgramTree-tree_in None = no_defs
 IsProgramTree-tree_in (Some p) = IsProgramTree-program_tree p
 
 -- what holds of a program's tree holds of that which a note of the program knows
-pub known_tree : (F : Tree → Type 0) (o : Option Program) (p : Program) → o ≡ Some p → F (program_tree p) → F (tree_in o)
+pub known_tree : (F : Tree → Type 0) (o : Option Program) (p : Program) → o ≡ Some p → F (program_tree p)
+    → F (tree_in o)
 known_tree F o p e h = subst (λ q. F (tree_in q)) (sym e) h

@@ -23,21 +23,26 @@ pub open_later : (R : List Row) (n s : ℕ) (ps : List ℕ) → IsOpen R n s ps 
 open_later R n s ps h = record { below = h.below; order = h.order; all = λ b c d e. h.all b c d (held_before R b s e) }
 
 -- a row that is no scope holds none
-pub held_no_scope : (R : List Row) (s : ℕ) (hs : List Bool) → is_scope (at R s).node ≡ false → AreHeld R s hs → AreHeld R (s + 1) hs
+pub held_no_scope : (R : List Row) (s : ℕ) (hs : List Bool) → is_scope (at R s).node ≡ false → AreHeld R s hs
+    → AreHeld R (s + 1) hs
 held_no_scope R s hs e h = record {
   long = h.long;
-  each = λ i less. h.each i less ∙ sym (ap (held R i) (add-one s) ∙ or_false (held R i s) (confines R s i) (confines_none R s i (keeps_no_scope R s i e)));
+  each = λ i less. h.each i less
+      ∙ sym (ap (held R i) (add-one s)
+      ∙ or_false (held R i s) (confines R s i) (confines_none R s i (keeps_no_scope R s i e)));
 }
 
-pub open_below : (R : List Row) (s j : ℕ) (hs : List Bool) (ps : List ℕ) → s < length R → length hs ≡ length R → IsOpen R s s ps → j < length ps
-    → get_or ps j 0 < length hs
+pub open_below : (R : List Row) (s j : ℕ) (hs : List Bool) (ps : List ℕ) → s < length R → length hs ≡ length R
+    → IsOpen R s s ps → j < length ps → get_or ps j 0 < length hs
 open_below R s j hs ps row long o less = let b = o.below j less in omega arith
 
 -- the last ones that are held are left out
-pub open_kept : (R : List Row) (s k : ℕ) (hs : List Bool) (ps : List ℕ) → s < length R → AreHeld R (s + 1) hs → k ≤ length ps
-    → ((j : ℕ) → k ≤ j → j < length ps → get_or hs (get_or ps j 0) false ≡ true) → IsOpen R s s ps → IsOpen R s (s + 1) (take k ps)
+pub open_kept : (R : List Row) (s k : ℕ) (hs : List Bool) (ps : List ℕ) → s < length R → AreHeld R (s + 1) hs
+    → k ≤ length ps → ((j : ℕ) → k ≤ j → j < length ps → get_or hs (get_or ps j 0) false ≡ true) → IsOpen R s s ps
+    → IsOpen R s (s + 1) (take k ps)
 open_kept R s k hs ps row h fit behind o = record {
-  below = λ j c. let d : j < k = subst (λ n. j < n) long c in subst (λ z. z < s) (sym (get_or-take k ps j 0 d)) (o.below j (omega arith));
+  below = λ j c. let d : j < k =
+      subst (λ n. j < n) long c in subst (λ z. z < s) (sym (get_or-take k ps j 0 d)) (o.below j (omega arith));
   order = λ i j c d.
       let e : j < k = subst (λ n. j < n) long d in
       let f : i < k = omega arith in
@@ -56,14 +61,16 @@ open_kept R s k hs ps row h fit behind o = record {
         absurd (false≢true (sym (h.each b (omega arith) ∙ e) ∙ (sym (ap (λ z. get_or hs z false) f) ∙ behind j g d)))
 
 -- one more row, which may see its own scope
-pub open_same : (R : List Row) (n t : ℕ) (ps : List ℕ) → sees_own (at R n).node ≡ true → IsOpen R n t ps → IsOpen R (n + 1) t ps
+pub open_same : (R : List Row) (n t : ℕ) (ps : List ℕ) → sees_own (at R n).node ≡ true → IsOpen R n t ps
+    → IsOpen R (n + 1) t ps
 open_same R n t ps e h = record {
   below = λ j c. let d = h.below j c in omega arith;
   order = h.order;
   all = λ b c d f. one b d f (cases_lt b n) c;
 }
   where
-    one : (b : ℕ) → sees_own (at R b).node ≡ false → held R b t ≡ false → (b < n) ⊎ (n ≤ b) → b < n + 1 → (j : ℕ) × (j < length ps) × (get_or ps j 0 ≡ b)
+    one : (b : ℕ) → sees_own (at R b).node ≡ false → held R b t ≡ false → (b < n) ⊎ (n ≤ b) → b < n + 1
+        → (j : ℕ) × (j < length ps) × (get_or ps j 0 ≡ b)
     one b d f (inl g) c = h.all b g d f
     one b d f (inr g) c =
         let same : b ≡ n = omega arith in
@@ -89,7 +96,8 @@ open_more R n t ps h = record {
     below j (inl c) d = let e = left j c in let f = h.below j c in omega arith
     below j (inr c) d = let g = long in let e = last j (omega arith) in omega arith
 
-    order : (i j : ℕ) → i < j → j < length (ps ++ n ∷ []) → (j < length ps) ⊎ (length ps ≤ j) → get_or (ps ++ n ∷ []) i 0 < get_or (ps ++ n ∷ []) j 0
+    order : (i j : ℕ) → i < j → j < length (ps ++ n ∷ []) → (j < length ps) ⊎ (length ps ≤ j)
+        → get_or (ps ++ n ∷ []) i 0 < get_or (ps ++ n ∷ []) j 0
     order i j c d (inl e) = let f = left i (omega arith) in let g = left j e in let k = h.order i j c e in omega arith
     order i j c d (inr e) =
         let l = long in

@@ -11,7 +11,8 @@ use Rattle.id_table.specs.declared.row.Node.TheVariants.{Def, Head}
 use Rattle.id_table.specs.Rows.{at, no_row}
 use Rattle.id_table.specs.Tables.{is_param}
 use Rattle.id_table.specs.Turns.{IsDefOf, IsTable, params_at}
-use Rattle.id_table.proofs.BlocksLemmas.{Among-from_params_at, Among-params_at, param_at, param_index, params_at-run, run}
+use Rattle.id_table.proofs.BlocksLemmas.{Among-from_params_at, Among-params_at, param_at, param_index, params_at-run}
+use Rattle.id_table.proofs.BlocksLemmas.{run}
 use Rattle.id_check.specs.declared.cause.CheckCause.{CheckCause}
 use Rattle.id_check.specs.declared.cause.CheckCause.TheVariants.{MainKind}
 use Rattle.id_check.specs.Causes.{array_param, callee, head_in, is_array_param}
@@ -71,21 +72,25 @@ has_param-own R t h n d k less = same_truth (is_param_of R h (h + 1 + k)) (nat_l
     there : is_param_of R h (h + 1 + k) ≡ true → nat_lt k (length (params_at R h)) ≡ true
     there e =
         let p = both (is_param (at R (h + 1 + k)).node) (nat_eq (at R (h + 1 + k)).block h) e in
-        let w = param_index R t h n d (h + 1 + k) (Among-params_at R h (h + 1 + k) less p.0 (eqb-true (at R (h + 1 + k)).block h p.1)) in
+        let w = param_index R t h n d (h + 1 + k)
+        (Among-params_at R h (h + 1 + k) less p.0 (eqb-true (at R (h + 1 + k)).block h p.1)) in
         lt-ltb k (length (params_at R h)) (omega (arith, w.1, w.2))
 
     back : nat_lt k (length (params_at R h)) ≡ true → is_param_of R h (h + 1 + k) ≡ true
     back e =
         let p = Among-from_params_at R h (h + 1 + k) (param_at R t h n d k (ltb-true k (length (params_at R h)) e)) in
-        both_true (is_param (at R (h + 1 + k)).node) (nat_eq (at R (h + 1 + k)).block h) p.1 ((Decides-eqb (at R (h + 1 + k)).block h).1 p.2)
+        both_true (is_param (at R (h + 1 + k)).node) (nat_eq (at R (h + 1 + k)).block h) p.1
+        ((Decides-eqb (at R (h + 1 + k)).block h).1 p.2)
 
 -- it has none where the rows end before
-pub has_param-past : (R : List Row) → IsTable R → (h n : ℕ) → IsDefOf R n h → (k : ℕ) → length R ≤ h + 1 + k → nat_lt k (length (params_at R h)) ≡ false
+pub has_param-past : (R : List Row) → IsTable R → (h n : ℕ) → IsDefOf R n h → (k : ℕ) → length R ≤ h + 1 + k
+    → nat_lt k (length (params_at R h)) ≡ false
 has_param-past R t h n d k past = of (nat_lt k (length (params_at R h))) refl
   where
     of : (b : Truth) → nat_lt k (length (params_at R h)) ≡ b → b ≡ false
     of true e =
-        let p = (Among-from_params_at R h (h + 1 + k) (param_at R t h n d k (ltb-true k (length (params_at R h)) e))).0 in
+        let p = (Among-from_params_at R h (h + 1 + k)
+        (param_at R t h n d k (ltb-true k (length (params_at R h)) e))).0 in
         absurd (omega (arith, p, past))
     of false e = refl
 
@@ -101,7 +106,8 @@ array_param-none R (x ∷ xs) qs e = by (is_array_param (at R x).node) e (array_
     by false f h = h f
 
 -- the first array stays the first
-array_param-some : (R : List Row) (ps qs : List ℕ) (c : CheckCause) → array_param R ps ≡ c ∷ [] → array_param R (ps ++ qs) ≡ c ∷ []
+array_param-some : (R : List Row) (ps qs : List ℕ) (c : CheckCause) → array_param R ps ≡ c ∷ []
+    → array_param R (ps ++ qs) ≡ c ∷ []
 array_param-some R [] qs c e = cc
 array_param-some R (x ∷ xs) qs c e = by (is_array_param (at R x).node) e (array_param-some R xs qs c)
   where
@@ -112,22 +118,26 @@ array_param-some R (x ∷ xs) qs c e = by (is_array_param (at R x).node) e (arra
     by false f h = h f
 
 -- the first array among the numbers from a on is so where more numbers are looked at
-run_some : (R : List Row) (a k j : ℕ) (c : CheckCause) → array_param R (run a k) ≡ c ∷ [] → array_param R (run a (k + j)) ≡ c ∷ []
+run_some : (R : List Row) (a k j : ℕ) (c : CheckCause) → array_param R (run a k) ≡ c ∷ []
+    → array_param R (run a (k + j)) ≡ c ∷ []
 run_some R a k zero c e = let s : k + 0 ≡ k = omega arith in ap (λ m. array_param R (run a m)) s ∙ e
 run_some R a k (suc j) c e =
     let s : k + suc j ≡ suc (k + j) = omega arith in
-    ap (λ m. array_param R (run a m)) s ∙ array_param-some R (run a (k + j)) ((a + (k + j)) ∷ []) c (run_some R a k j c e)
+    ap (λ m. array_param R (run a m)) s
+    ∙ array_param-some R (run a (k + j)) ((a + (k + j)) ∷ []) c (run_some R a k j c e)
 
 -- no parameter before the row i is an array
 abbrev pub IsWithout : List Row → ℕ → ℕ → Type 0
 IsWithout R h i = array_param R (run (h + 1) (i - (h + 1))) ≡ []
 
 -- nor is one before the next row, if this one is none
-pub without_next : (R : List Row) (h i : ℕ) → h < i → IsWithout R h i → is_array_param (at R i).node ≡ false → IsWithout R h (i + 1)
+pub without_next : (R : List Row) (h i : ℕ) → h < i → IsWithout R h i → is_array_param (at R i).node ≡ false
+    → IsWithout R h (i + 1)
 without_next R h i l e f =
     let k : i + 1 - (h + 1) ≡ suc (i - (h + 1)) = omega arith in
     let s : h + 1 + (i - (h + 1)) ≡ i = omega arith in
-    ap (λ m. array_param R (run (h + 1) m)) k ∙ array_param-none R (run (h + 1) (i - (h + 1))) ((h + 1 + (i - (h + 1))) ∷ []) e
+    ap (λ m. array_param R (run (h + 1) m)) k
+    ∙ array_param-none R (run (h + 1) (i - (h + 1))) ((h + 1 + (i - (h + 1))) ∷ []) e
     ∙ ap (λ z. array_param R (z ∷ [])) s ∙ ap (λ b. if b then (MainKind (at R i).place ∷ []) else []) f
 
 -- the index of a row among the parameters
@@ -138,8 +148,9 @@ index_of R t h n d i l less =
     ap (is_param_of R h) (sym s) ∙ has_param-own R t h n d (i - (h + 1)) (subst (λ z. z < length R) (sym s) less)
 
 -- this parameter is the first that is an array
-pub array_found : (R : List Row) → IsTable R → (h n : ℕ) → IsDefOf R n h → (i : ℕ) → h < i → i < length R → is_param_of R h i ≡ true
-    → IsWithout R h i → is_array_param (at R i).node ≡ true → MainKind (at R i).place ∷ [] ≡ array_param R (params_at R h)
+pub array_found : (R : List Row) → IsTable R → (h n : ℕ) → IsDefOf R n h → (i : ℕ) → h < i → i < length R
+    → is_param_of R h i ≡ true → IsWithout R h i → is_array_param (at R i).node ≡ true
+    → MainKind (at R i).place ∷ [] ≡ array_param R (params_at R h)
 array_found R t h n d i l less own e f = sym (
     ap (array_param R) (params_at-run R t h n d) ∙ ap (λ m. array_param R (run (h + 1) m)) (sym rest)
     ∙ run_some R (h + 1) (suc k) (length (params_at R h) - suc k) c one
@@ -166,8 +177,9 @@ array_found R t h n d i l less own e f = sym (
         ∙ ap (λ z. array_param R (z ∷ [])) same ∙ ap (λ b. if b then (MainKind (at R i).place ∷ []) else []) f
 
 -- all parameters are before the row i, and none is an array
-pub array_missing : (R : List Row) → IsTable R → (h n : ℕ) → IsDefOf R n h → (i : ℕ) → h < i → i ≤ h + 1 + length (params_at R h)
-    → nat_lt (i - (h + 1)) (length (params_at R h)) ≡ false → IsWithout R h i → [] ≡ array_param R (params_at R h)
+pub array_missing : (R : List Row) → IsTable R → (h n : ℕ) → IsDefOf R n h → (i : ℕ) → h < i
+    → i ≤ h + 1 + length (params_at R h) → nat_lt (i - (h + 1)) (length (params_at R h)) ≡ false → IsWithout R h i
+    → [] ≡ array_param R (params_at R h)
 array_missing R t h n d i l low past e =
     let s : i - (h + 1) ≡ length (params_at R h) = elim (cases_lt (i - (h + 1)) (length (params_at R h))) [
       | inl w ↦ absurd (false≢true (sym past ∙ lt-ltb (i - (h + 1)) (length (params_at R h)) w))
@@ -176,18 +188,21 @@ array_missing R t h n d i l low past e =
     sym (ap (array_param R) (params_at-run R t h n d) ∙ ap (λ m. array_param R (run (h + 1) m)) (sym s) ∙ e)
 
 -- the row i is none of them
-pub array_behind : (R : List Row) → IsTable R → (h n : ℕ) → IsDefOf R n h → (i : ℕ) → h < i → i < length R → is_param_of R h i ≡ false
-    → i ≤ h + 1 + length (params_at R h) → IsWithout R h i → [] ≡ array_param R (params_at R h)
-array_behind R t h n d i l less other low e = array_missing R t h n d i l low (sym (index_of R t h n d i l less) ∙ other) e
+pub array_behind : (R : List Row) → IsTable R → (h n : ℕ) → IsDefOf R n h → (i : ℕ) → h < i → i < length R
+    → is_param_of R h i ≡ false → i ≤ h + 1 + length (params_at R h) → IsWithout R h i
+    → [] ≡ array_param R (params_at R h)
+array_behind R t h n d i l less other low e =
+    array_missing R t h n d i l low (sym (index_of R t h n d i l less) ∙ other) e
 
 -- there is no row i
 pub array_past : (R : List Row) → IsTable R → (h n : ℕ) → IsDefOf R n h → (i : ℕ) → h < i → length R ≤ i
     → i ≤ h + 1 + length (params_at R h) → IsWithout R h i → [] ≡ array_param R (params_at R h)
-array_past R t h n d i l past low e = array_missing R t h n d i l low (has_param-past R t h n d (i - (h + 1)) (omega (arith, past))) e
+array_past R t h n d i l past low e =
+    array_missing R t h n d i l low (has_param-past R t h n d (i - (h + 1)) (omega (arith, past))) e
 
 -- a parameter is one of those behind the head
-pub param_low : (R : List Row) → IsTable R → (h n : ℕ) → IsDefOf R n h → (i : ℕ) → h < i → i < length R → is_param_of R h i ≡ true
-    → i + 1 ≤ h + 1 + length (params_at R h)
+pub param_low : (R : List Row) → IsTable R → (h n : ℕ) → IsDefOf R n h → (i : ℕ) → h < i → i < length R
+    → is_param_of R h i ≡ true → i + 1 ≤ h + 1 + length (params_at R h)
 param_low R t h n d i l less own =
     let w = ltb-true (i - (h + 1)) (length (params_at R h)) (sym (index_of R t h n d i l less) ∙ own) in
     omega (arith, w)

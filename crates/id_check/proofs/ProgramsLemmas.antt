@@ -9,8 +9,10 @@ use Rattle.id_value.specs.declared.Kind.TheVariants.{Int, Bool, Array, Nested}
 use Rattle.id_value.specs.Kinds.{array_kind as array_kind_of}
 use Rattle.id_table.specs.declared.row.Row.{Row}
 use Rattle.id_table.specs.declared.row.Node.{Node}
-use Rattle.id_table.specs.declared.row.Node.TheVariants.{Head, Param, Literal, Name, Unary, Binary, Split, If, Enter, Arg, Call, Block, Binding, Def, Program}
-use Rattle.id_table.specs.declared.row.Node.TheVariants.{Start, LoopHead, Variable, Entries, Switches, Turn, NextUse, Next, Body, Reset, Loop}
+use Rattle.id_table.specs.declared.row.Node.TheVariants.{Head, Param, Literal, Name, Unary, Binary, Split, If, Enter}
+use Rattle.id_table.specs.declared.row.Node.TheVariants.{Arg, Call, Block, Binding, Def, Program}
+use Rattle.id_table.specs.declared.row.Node.TheVariants.{Start, LoopHead, Variable, Entries, Switches, Turn, NextUse}
+use Rattle.id_table.specs.declared.row.Node.TheVariants.{Next, Body, Reset, Loop}
 use Rattle.id_table.specs.declared.row.Node.TheVariants.{Bounds, Carried, Within, Count, Index, Span}
 use Rattle.id_table.specs.declared.row.Node.TheVariants.{Fetch, Address, Store}
 use Rattle.id_table.specs.declared.row.Node.TheVariants as node
@@ -29,10 +31,12 @@ use Rattle.id_check.specs.declared.kinds.Link.{Link}
 use Rattle.id_check.specs.declared.kinds.Link.TheVariants.{Fixed, To, Nowhere}
 use Rattle.id_check.specs.declared.kinds.Link.TheVariants as link
 use Rattle.id_check.specs.Chains.{goes_to}
-use Rattle.id_check.specs.Kinds.{AreKinds, EndsIn, binary_kind, constant_kind, in_kind, in_nothing, further, within, kind_within, link_at, link_of, link_of_name, unary_kind}
+use Rattle.id_check.specs.Kinds.{AreKinds, EndsIn, binary_kind, constant_kind, in_kind, in_nothing, further, within}
+use Rattle.id_check.specs.Kinds.{kind_within, link_at, link_of, link_of_name, unary_kind}
 use Rattle.id_check.specs.Programs.{Calls, Stands, binder, kind, region, rows, tree}
 use Rattle.id_check.specs.Scopes.{binder_by, binder_in, binder_of, binds, bound_name, held, is_name}
-use Rattle.id_check.specs.Scopes.{is_next_use, keeps, looks, sees, sees_own, takes, used_name, user_of, uses_procedure, uses_value}
+use Rattle.id_check.specs.Scopes.{is_next_use, keeps, looks, sees, sees_own, takes, used_name, user_of, uses_procedure}
+use Rattle.id_check.specs.Scopes.{uses_value}
 use Rattle.id_check.proofs.ChainsLemmas.{after, after_within}
 use Rattle.id_check.proofs.HomesLemmas.{bound_home, home, seen_outside}
 use Rattle.id_check.proofs.LinksLemmas.{link_below, part_of}
@@ -70,24 +74,30 @@ option_kind (Some Nested) (Some Array) h = absurd (h (λ e. cc))
 option_kind (Some Nested) (Some Nested) h = refl
 
 -- the kinds of rows are the only ones
-pub kind_once : (R : List Row) (β : ℕ → Option ℕ) (κ μ : ℕ → Option Kind) → AreKinds R β κ → AreKinds R β μ → (i : ℕ) → i < length R → κ i ≡ μ i
+pub kind_once : (R : List Row) (β : ℕ → Option ℕ) (κ μ : ℕ → Option Kind) → AreKinds R β κ → AreKinds R β μ → (i : ℕ)
+    → i < length R → κ i ≡ μ i
 kind_once R β κ μ g h i less = option_kind (κ i) (μ i) (λ d.
-    let endless : (o : Option Kind) → EndsIn (link_at R β) i o → ⊥ = λ o e. d (g.ends i o less e ∙ sym (h.ends i o less e)) in
+    let endless : (o : Option Kind) → EndsIn (link_at R β) i o → ⊥ =
+    λ o e. d (g.ends i o less e ∙ sym (h.ends i o less e)) in
     d (g.endless i less endless ∙ sym (h.endless i less endless)))
 
 -- the kind is one all along a chain
-kind_to : (R : List Row) (β : ℕ → Option ℕ) (κ : ℕ → Option Kind) (i j : ℕ) → AreKinds R β κ → i < length R → j < length R → link_at R β i ≡ To j → κ i ≡ κ j
+kind_to : (R : List Row) (β : ℕ → Option ℕ) (κ : ℕ → Option Kind) (i j : ℕ) → AreKinds R β κ → i < length R
+    → j < length R → link_at R β i ≡ To j → κ i ≡ κ j
 kind_to R β κ i j h less low e = option_kind (κ i) (κ j) (λ d.
-    let endless : (o : Option Kind) → EndsIn (link_at R β) j o → ⊥ = λ o f. d (h.ends i o less (further j e f) ∙ sym (h.ends j o low f)) in
+    let endless : (o : Option Kind) → EndsIn (link_at R β) j o → ⊥ =
+    λ o f. d (h.ends i o less (further j e f) ∙ sym (h.ends j o low f)) in
     d (h.endless i less (λ o f. endless o (after j f e)) ∙ sym (h.endless j low endless)))
 
 -- and that of the elements of an array follows from the array's
-kind_into : (R : List Row) (β : ℕ → Option ℕ) (κ : ℕ → Option Kind) (i j : ℕ) → AreKinds R β κ → i < length R → j < length R → link_at R β i ≡ link.Within j
-    → κ i ≡ Some (kind_within (κ j))
+kind_into : (R : List Row) (β : ℕ → Option ℕ) (κ : ℕ → Option Kind) (i j : ℕ) → AreKinds R β κ → i < length R
+    → j < length R → link_at R β i ≡ link.Within j → κ i ≡ Some (kind_within (κ j))
 kind_into R β κ i j h less low e = option_kind (κ i) (Some (kind_within (κ j))) (λ d.
     let endless : (o : Option Kind) → EndsIn (link_at R β) j o → ⊥ =
-    λ o f. d (h.ends i (Some (kind_within o)) less (within j e f) ∙ ap (λ z. Some (kind_within z)) (sym (h.ends j o low f))) in
-    d (h.endless i less (λ o f. let w = after_within j f e in endless w.0 w.1) ∙ ap (λ z. Some (kind_within z)) (sym (h.endless j low endless))))
+    λ o f. d (h.ends i (Some (kind_within o)) less (within j e f)
+    ∙ ap (λ z. Some (kind_within z)) (sym (h.ends j o low f))) in
+    d (h.endless i less (λ o f. let w = after_within j f e in endless w.0 w.1)
+    ∙ ap (λ z. Some (kind_within z)) (sym (h.endless j low endless))))
 
 -- a row's binder is a row
 pub binder_below : (P : Checked) (i b : ℕ) → i < length (rows P) → binder P i ≡ Some b → b < length (rows P)
@@ -101,17 +111,20 @@ link_in P i n = link_of (binder P (user_of i n)) n
 pub kind_along : (P : Checked) (i j : ℕ) (n : Node) → Stands P i n → link_in P i n ≡ To j → kind P i ≡ kind P j
 kind_along P i j n h e =
     let link : link_at (rows P) (binder P) i ≡ To j = ap (link_in P i) h.node ∙ e in
-    kind_to (rows P) (binder P) (kind P) i j P.kinded h.within (link_below (rows P) (binder P) P.table.formed (binder_below P) i j h.within (ap goes_to link)) link
+    kind_to (rows P) (binder P) (kind P) i j P.kinded h.within
+    (link_below (rows P) (binder P) P.table.formed (binder_below P) i j h.within (ap goes_to link)) link
 
 -- and into an array, whose elements' kind the row has
-pub kind_element : (P : Checked) (i j : ℕ) (n : Node) → Stands P i n → link_in P i n ≡ link.Within j → kind P i ≡ Some (kind_within (kind P j))
+pub kind_element : (P : Checked) (i j : ℕ) (n : Node) → Stands P i n → link_in P i n ≡ link.Within j
+    → kind P i ≡ Some (kind_within (kind P j))
 kind_element P i j n h e =
     let on : link_at (rows P) (binder P) i ≡ link.Within j = ap (link_in P i) h.node ∙ e in
     kind_into (rows P) (binder P) (kind P) i j P.kinded h.within
     (link_below (rows P) (binder P) P.table.formed (binder_below P) i j h.within (ap goes_to on)) on
 
 -- where it ends in a kind
-pub kind_fixed : (P : Checked) (i : ℕ) (n : Node) (k : Kind) → Stands P i n → link_in P i n ≡ Fixed k → kind P i ≡ Some k
+pub kind_fixed : (P : Checked) (i : ℕ) (n : Node) (k : Kind) → Stands P i n → link_in P i n ≡ Fixed k
+    → kind P i ≡ Some k
 kind_fixed P i n k h e = P.kinded.ends i (Some k) h.within (in_kind k (ap (link_in P i) h.node ∙ e))
 
 -- ---- no cause
@@ -124,7 +137,8 @@ both_nil (x ∷ xs) ys e = cc
 abbrev causes_of : List Row → (ℕ → Option ℕ) → (ℕ → Option Kind) → ℕ → List CheckCause
 causes_of R β κ i = causes_in R κ (β (user_of i (at R i).node)) (at R i).place (at R i).node
 
-below_nil : (R : List Row) (β : ℕ → Option ℕ) (κ : ℕ → Option Kind) (n i : ℕ) → causes_below R β κ n ≡ [] → i < n → causes_of R β κ i ≡ []
+below_nil : (R : List Row) (β : ℕ → Option ℕ) (κ : ℕ → Option Kind) (n i : ℕ) → causes_below R β κ n ≡ [] → i < n
+    → causes_of R β κ i ≡ []
 below_nil R β κ zero i e less = absurd (omega arith)
 below_nil R β κ (suc n) i e less =
     let w = both_nil (causes_below R β κ n) (causes_of R β κ n) e in
@@ -135,11 +149,13 @@ below_nil R β κ (suc n) i e less =
     one f (inr c) r = let same : i ≡ n = omega arith in subst (λ k. causes_of R β κ k ≡ []) (sym same) f
 
 -- a row of a checked program has no cause
-pub none_in : (P : Checked) (i : ℕ) (n : Node) → Stands P i n → causes_in (rows P) (kind P) (binder P (user_of i n)) (at (rows P) i).place n ≡ []
+pub none_in : (P : Checked) (i : ℕ) (n : Node) → Stands P i n
+    → causes_in (rows P) (kind P) (binder P (user_of i n)) (at (rows P) i).place n ≡ []
 none_in P i n h =
     subst (λ z. causes_in (rows P) (kind P) (binder P (user_of i z)) (at (rows P) i).place z ≡ []) h.node
     (below_nil (rows P) (binder P) (kind P) (length (rows P)) i
-    (both_nil (duplicates (rows P) (length (rows P))) (causes_below (rows P) (binder P) (kind P) (length (rows P))) P.accepted).1 h.within)
+    (both_nil (duplicates (rows P) (length (rows P))) (causes_below (rows P) (binder P) (kind P) (length (rows P)))
+    P.accepted).1 h.within)
 
 -- ---- names
 
@@ -178,7 +194,8 @@ pub record IsSeenIn (R : List Row) (i x b s : ℕ) : Type 0 where
   pub name : bound_name (at R b).node ≡ Some x
 
 -- a binder is seen in a scope
-pub seen_in : (P : Checked) (i x b : ℕ) (n : Node) → Stands P i n → used_name n ≡ Some x → binder P i ≡ Some b → (s : ℕ) × IsSeenIn (rows P) i x b s
+pub seen_in : (P : Checked) (i x b : ℕ) (n : Node) → Stands P i n → used_name n ≡ Some x → binder P i ≡ Some b
+    → (s : ℕ) × IsSeenIn (rows P) i x b s
 seen_in P i x b n h u e = (
   s,
   record {
@@ -189,7 +206,8 @@ seen_in P i x b n h u e = (
     taken = and_first (takes (at R s).node (at R b).node) (around R s b) kept;
     inside = and_second (takes (at R s).node (at R b).node) (around R s b) kept;
     bare = not_true (held R b s) (and_second (keeps R s b) (not (held R b s)) free);
-    name = named x (bound_name (at R b).node) (and_second (keeps R s b && not (held R b s)) (is_name x (bound_name (at R b).node)) it);
+    name = named x (bound_name (at R b).node)
+        (and_second (keeps R s b && not (held R b s)) (is_name x (bound_name (at R b).node)) it);
   },
 )
   where
@@ -197,7 +215,8 @@ seen_in P i x b n h u e = (
     R = rows P
 
     means : binder_of R x i (length R) ≡ Some b
-    means = sym (ap (λ m. binder_by R i (used_name m) (length R)) h.node ∙ ap (λ o. binder_by R i o (length R)) u) ∙ (sym (P.bound.each i h.within) ∙ e)
+    means = sym (ap (λ m. binder_by R i (used_name m) (length R)) h.node ∙ ap (λ o. binder_by R i o (length R)) u)
+        ∙ (sym (P.bound.each i h.within) ∙ e)
 
     v : (s : ℕ) × (s < length R) × ((if sees R s i then binder_in R s x s else None) ≡ Some b)
     v = first_of-some (λ s. if sees R s i then binder_in R s x s else None) (length R) b means
@@ -224,7 +243,8 @@ seen_in P i x b n h u e = (
     sight = and_first (looks (at R s).node (at R i).node && around R s i) (sees_own (at R i).node || held R i s) w.0
 
 -- what a scope that looks for names of values takes and binds a name is a binder
-taken_binder : (m n : Node) (x : ℕ) → looks m (Name 0) ≡ true → takes m n ≡ true → bound_name n ≡ Some x → is_binder n ≡ true
+taken_binder : (m n : Node) (x : ℕ) → looks m (Name 0) ≡ true → takes m n ≡ true → bound_name n ≡ Some x
+    → is_binder n ≡ true
 taken_binder (Block b) (Binding y a) x e f g = refl
 taken_binder Body (Binding y a) x e f g = refl
 taken_binder Body (Next y k o v) x e f g = refl
@@ -261,8 +281,8 @@ pub record IsBoundAt (P : Checked) (i x b j : ℕ) : Type 0 where
   pub stands : Lies (rows P) (home (rows P) b) (region P j)
 
 -- the binder is so where its scope is round j
-bound_at : (P : Checked) (i x b j s : ℕ) (n : Node) → Stands P i n → uses_value n ≡ true → binder P i ≡ Some b → IsSeenIn (rows P) i x b s
-    → around (rows P) s j ≡ true
+bound_at : (P : Checked) (i x b j s : ℕ) (n : Node) → Stands P i n → uses_value n ≡ true → binder P i ≡ Some b
+    → IsSeenIn (rows P) i x b s → around (rows P) s j ≡ true
     → ((at (rows P) j).node ≡ Start → ⊥) → IsBoundAt P i x b j
 bound_at P i x b j s n h u e w round other =
     let look = looks_any (at (rows P) s).node (at (rows P) i).node (ap uses_value h.node ∙ u) w.look in
@@ -271,13 +291,14 @@ bound_at P i x b j s n h u e w round other =
       within = binder_below P i b h.within e;
       is_binder = taken_binder (at (rows P) s).node (at (rows P) b).node x look w.taken w.name;
       name = w.name;
-      stands = bound_home (rows P) (table_of P) s b j x (not_last (rows P) (table_of P) (λ m. looks m (Name 0)) refl s w.within look) look w.taken w.name
+      stands = bound_home (rows P) (table_of P) s b j x
+          (not_last (rows P) (table_of P) (λ m. looks m (Name 0)) refl s w.within look) look w.taken w.name
           w.inside w.bare round other;
     }
 
 has_binder : (P : Checked) (i : ℕ) (n : Node) → Stands P i n
-    → causes_in (rows P) (kind P) (binder P (user_of i n)) (at (rows P) i).place n ≡ unknown (binder P i) (at (rows P) i).place
-    → (b : ℕ) × (binder P i ≡ Some b)
+    → causes_in (rows P) (kind P) (binder P (user_of i n)) (at (rows P) i).place n
+    ≡ unknown (binder P i) (at (rows P) i).place → (b : ℕ) × (binder P i ≡ Some b)
 has_binder P i n h e = by (binder P i) refl (sym e ∙ none_in P i n h)
   where
     by : (o : Option ℕ) → binder P i ≡ o → unknown o (at (rows P) i).place ≡ [] → (b : ℕ) × (binder P i ≡ Some b)
@@ -288,19 +309,29 @@ has_binder P i n h e = by (binder P i) refl (sym e ∙ none_in P i n h)
 pub bound_name_row : (P : Checked) (i x : ℕ) → Stands P i (Name x) → (b : ℕ) × IsBoundAt P i x b i
 bound_name_row P i x h =
     let e = has_binder P i (Name x) h refl in
-    let w = seen_in P i x e.0 (Name x) h refl e.1 in
-    (e.0, bound_at P i x e.0 i w.0 (Name x) h refl e.1 w.1 (w.1).round (λ f. absurd (false≢true (sym (ap is_expression f) ∙ ap is_expression h.node))))
+    let w = seen_in P i x e.0 (Name x) h refl e.1 in (
+      e.0,
+      bound_at P i x e.0 i w.0 (Name x) h refl e.1 w.1 (w.1).round
+          (λ f. absurd (false≢true (sym (ap is_expression f) ∙ ap is_expression h.node))),
+    )
 
 -- and so has a loop's variable outside of the loop
-pub bound_use_row : (P : Checked) (o x : ℕ) → Stands P o (NextUse x) → (b : ℕ) × (n : ℕ) × IsLoopOf (rows P) n (at (rows P) o).block × IsBoundAt P o x b n
+pub bound_use_row : (P : Checked) (o x : ℕ) → Stands P o (NextUse x)
+    → (b : ℕ) × (n : ℕ) × IsLoopOf (rows P) n (at (rows P) o).block × IsBoundAt P o x b n
 bound_use_row P o x h =
     let e = has_binder P o (NextUse x) h refl in
     let w = seen_in P o x e.0 (NextUse x) h refl e.1 in
     let l = (table_of P).loop_of o h.within (ap is_in_loop h.node) in
-    let s = seen_outside (rows P) (table_of P) o x l.0 w.0 h.node (not_last (rows P) (table_of P) is_in_loop refl o h.within (ap is_in_loop h.node)) l.1 l.2
+    let s = seen_outside (rows P) (table_of P) o x l.0 w.0 h.node
+    (not_last (rows P) (table_of P) is_in_loop refl o h.within (ap is_in_loop h.node)) l.1 l.2
     (w.1).within (sym (ap (looks (at (rows P) w.0).node) h.node) ∙ (w.1).look) (w.1).round
-    (subst (λ m. (sees_own m || held (rows P) o w.0) ≡ true) h.node (w.1).out) in
-    (e.0, l.0, l.1, bound_at P o x e.0 l.0 w.0 (NextUse x) h refl e.1 w.1 s (λ f. absurd (false≢true (sym (ap is_expression f) ∙ ap is_expression (l.1).node))))
+    (subst (λ m. (sees_own m || held (rows P) o w.0) ≡ true) h.node (w.1).out) in (
+      e.0,
+      l.0,
+      l.1,
+      bound_at P o x e.0 l.0 w.0 (NextUse x) h refl e.1 w.1 s
+          (λ f. absurd (false≢true (sym (ap is_expression f) ∙ ap is_expression (l.1).node))),
+    )
 
 -- what takes the names of procedures takes definitions
 taken_def : (m n : Node) (x : ℕ) → looks m (Enter x) ≡ true → takes m n ≡ true → is_def n ≡ true
@@ -311,7 +342,8 @@ taken_def Span n x e f = absurd (false≢true e)
 taken_def (Def z h k b) n x e f = absurd (false≢true e)
 taken_def _ n x e f = absurd (false≢true e)
 
-def_named : (n : Node) (x : ℕ) → is_def n ≡ true → bound_name n ≡ Some x → (h : ℕ) × (k : Kind) × (b : ℕ) × (n ≡ Def x h k b)
+def_named : (n : Node) (x : ℕ) → is_def n ≡ true → bound_name n ≡ Some x
+    → (h : ℕ) × (k : Kind) × (b : ℕ) × (n ≡ Def x h k b)
 def_named (Def y h k b) x e f = (h, k, b, ap (λ z. Def z h k b) (same_some y x f))
 def_named _ x e f = absurd (false≢true e)
 
@@ -322,8 +354,10 @@ enter_row P i x h =
     let b = e.0 in
     let v = seen_in P i x b (Enter x) h refl e.1 in
     let w = v.1 in
-    let look : looks (at (rows P) v.0).node (Enter x) ≡ true = sym (ap (looks (at (rows P) v.0).node) h.node) ∙ w.look in
-    let d = def_named (at (rows P) b).node x (taken_def (at (rows P) v.0).node (at (rows P) b).node x look w.taken) w.name in (
+    let look : looks (at (rows P) v.0).node (Enter x) ≡ true =
+    sym (ap (looks (at (rows P) v.0).node) h.node) ∙ w.look in
+    let d = def_named (at (rows P) b).node x (taken_def (at (rows P) v.0).node (at (rows P) b).node x look w.taken)
+    w.name in (
       b,
       d.0,
       record {
@@ -345,9 +379,12 @@ callee_row P i e c h =
 -- ---- each expression and each binder has a kind
 
 -- the operands of a row are expressions
-pub part_row : (P : Checked) (i a : ℕ) (n : Node) → Stands P i n → HasOperand n a → (a < length (rows P)) × (is_expression (at (rows P) a).node ≡ true)
-part_row P i a n h e =
-    (part_of a P.table.formed h.within h.node (HasPart-operand n a e), (table_of P).operand_is i a h.within (subst (λ z. HasOperand z a) (sym h.node) e))
+pub part_row : (P : Checked) (i a : ℕ) (n : Node) → Stands P i n → HasOperand n a
+    → (a < length (rows P)) × (is_expression (at (rows P) a).node ≡ true)
+part_row P i a n h e = (
+  part_of a P.table.formed h.within h.node (HasPart-operand n a e),
+  (table_of P).operand_is i a h.within (subst (λ z. HasOperand z a) (sym h.node) e),
+)
 
 -- a kind is given to a row of this node
 abbrev IsValued : Node → Type 0
@@ -365,7 +402,9 @@ valued_expression : (n : Node) → is_expression n ≡ true → IsValued n
 valued_expression n e = or_left (is_expression n) (is_binder n || (is_def n || is_next_use n)) e
 
 valued_binder : (n : Node) → is_binder n ≡ true → IsValued n
-valued_binder n e = or_right (is_expression n) (is_binder n || (is_def n || is_next_use n)) (or_left (is_binder n) (is_def n || is_next_use n) e)
+valued_binder n e =
+    or_right (is_expression n) (is_binder n || (is_def n || is_next_use n))
+    (or_left (is_binder n) (is_def n || is_next_use n) e)
 
 valued_def : (n : Node) → is_def n ≡ true → IsValued n
 valued_def n e =
@@ -427,18 +466,29 @@ nowhere P i (Store a x) h v e = false≢true v
 -- the use of a first value stands before its `next`
 pub next_use_row : (P : Checked) (m x k o v : ℕ) → Stands P m (Next x k o v) → Stands P o (NextUse x)
 next_use_row P m x k o v h =
-    let q = (table_of P).next_in m (at (rows P) m).block k x (record { outer = o; value = v; within = h.within; block = refl; node = h.node }) in
+    let q = (table_of P).next_in m (at (rows P) m).block k x (record {
+      outer = o;
+      value = v;
+      within = h.within;
+      block =
+          refl;
+      node = h.node;
+    }) in
     record { within = part_of o P.table.formed h.within h.node (inl refl); node = (q.2).outer }
 
 -- a chain goes on to a row that gives a value
-goes : (P : Checked) (i j : ℕ) (n : Node) → Stands P i n → link_in P i n ≡ To j → (j < length (rows P)) × IsValued (at (rows P) j).node
+goes : (P : Checked) (i j : ℕ) (n : Node) → Stands P i n → link_in P i n ≡ To j
+    → (j < length (rows P)) × IsValued (at (rows P) j).node
 goes P i j Head h e = let d : Nowhere ≡ To j = e in cc
 goes P i j Program h e = let d : Nowhere ≡ To j = e in cc
 goes P i j (Def x d k b) h e = let c : Fixed k ≡ To j = e in cc
 goes P i j (Name x) h e =
     let w = bound_name_row P i x h in
     let same : w.0 ≡ j = to_same w.0 j (sym (ap link_of_name w.1.binder) ∙ e) in
-    subst (λ b. (b < length (rows P)) × IsValued (at (rows P) b).node) same (w.1.within, valued_binder (at (rows P) w.0).node w.1.is_binder)
+    subst (λ b. (b < length (rows P)) × IsValued (at (rows P) b).node) same (
+      w.1.within,
+      valued_binder (at (rows P) w.0).node w.1.is_binder,
+    )
 goes P i j (Param x k) h e = let d : Fixed k ≡ To j = e in cc
 goes P i j (Literal c) h e = let d : Fixed (constant_kind c) ≡ To j = e in cc
 goes P i j (Unary p a) h e = let d : Fixed (unary_kind p) ≡ To j = e in cc
@@ -450,26 +500,47 @@ goes P i j (Call s c) h e =
     let w = callee_row P i s c h in
     let same : w.0 ≡ j = to_same w.0 j (sym (ap link_of_name w.2.binder) ∙ e) in
     let d = w.2.definition in
-    subst (λ b. (b < length (rows P)) × IsValued (at (rows P) b).node) same (d.within, valued_def (at (rows P) w.0).node (ap is_def d.node))
+    subst (λ b. (b < length (rows P)) × IsValued (at (rows P) b).node) same (
+      d.within,
+      valued_def (at (rows P) w.0).node (ap is_def d.node),
+    )
 goes P i j (If s x y) h e =
     let w = part_row P i x (If s x y) h (inl refl) in
-    subst (λ a. (a < length (rows P)) × IsValued (at (rows P) a).node) (to_same x j e) (w.0, valued_expression (at (rows P) x).node w.1)
+    subst (λ a. (a < length (rows P)) × IsValued (at (rows P) a).node) (to_same x j e) (
+      w.0,
+      valued_expression (at (rows P) x).node w.1,
+    )
 goes P i j (Block b) h e =
     let w = part_row P i b (Block b) h refl in
-    subst (λ a. (a < length (rows P)) × IsValued (at (rows P) a).node) (to_same b j e) (w.0, valued_expression (at (rows P) b).node w.1)
+    subst (λ a. (a < length (rows P)) × IsValued (at (rows P) a).node) (to_same b j e) (
+      w.0,
+      valued_expression (at (rows P) b).node w.1,
+    )
 goes P i j (Binding x b) h e =
     let w = part_row P i b (Binding x b) h refl in
-    subst (λ a. (a < length (rows P)) × IsValued (at (rows P) a).node) (to_same b j e) (w.0, valued_expression (at (rows P) b).node w.1)
+    subst (λ a. (a < length (rows P)) × IsValued (at (rows P) a).node) (to_same b j e) (
+      w.0,
+      valued_expression (at (rows P) b).node w.1,
+    )
 goes P i j (NextUse x) h e =
     let w = bound_use_row P i x h in
     let same : w.0 ≡ j = to_same w.0 j (sym (ap link_of_name (w.3).binder) ∙ e) in
-    subst (λ b. (b < length (rows P)) × IsValued (at (rows P) b).node) same ((w.3).within, valued_binder (at (rows P) w.0).node (w.3).is_binder)
+    subst (λ b. (b < length (rows P)) × IsValued (at (rows P) b).node) same (
+      (w.3).within,
+      valued_binder (at (rows P) w.0).node (w.3).is_binder,
+    )
 goes P i j (Next x k o v) h e =
     let w = next_use_row P i x k o v h in
-    subst (λ b. (b < length (rows P)) × IsValued (at (rows P) b).node) (to_same o j e) (w.within, valued_use (at (rows P) o).node (ap is_next_use w.node))
+    subst (λ b. (b < length (rows P)) × IsValued (at (rows P) b).node) (to_same o j e) (
+      w.within,
+      valued_use (at (rows P) o).node (ap is_next_use w.node),
+    )
 goes P i j (Loop g w l) h e =
     let z = part_row P i l (Loop g w l) h refl in
-    subst (λ a. (a < length (rows P)) × IsValued (at (rows P) a).node) (to_same l j e) (z.0, valued_expression (at (rows P) l).node z.1)
+    subst (λ a. (a < length (rows P)) × IsValued (at (rows P) a).node) (to_same l j e) (
+      z.0,
+      valued_expression (at (rows P) l).node z.1,
+    )
 goes P i j (Bounds a b) h e = let d : Nowhere ≡ To j = e in cc
 goes P i j Start h e = let d : Nowhere ≡ To j = e in cc
 goes P i j (LoopHead s) h e = let d : Nowhere ≡ To j = e in cc
@@ -490,8 +561,8 @@ goes P i j (Address t k) h e = let d : link.Within t ≡ To j = e in cc
 goes P i j (Store a x) h e = let d : Nowhere ≡ To j = e in cc
 
 -- its chain ends in a kind, if it ends
-no_nothing : (P : Checked) (i : ℕ) (o : Option Kind) → EndsIn (link_at (rows P) (binder P)) i o → o ≡ None → i < length (rows P)
-    → IsValued (at (rows P) i).node → ⊥
+no_nothing : (P : Checked) (i : ℕ) (o : Option Kind) → EndsIn (link_at (rows P) (binder P)) i o → o ≡ None
+    → i < length (rows P) → IsValued (at (rows P) i).node → ⊥
 no_nothing P i _ (in_kind k e) f less v = let d : Some k ≡ None = f in cc
 no_nothing P i _ (in_nothing e) f less v = nowhere P i (at (rows P) i).node (record { within = less; node = refl }) v e
 no_nothing P i o (further j e g) f less v =
@@ -499,15 +570,19 @@ no_nothing P i o (further j e g) f less v =
     no_nothing P j o g f w.0 w.1
 no_nothing P i _ (within {o = w} j e g) f less v = let d : Some (kind_within w) ≡ None = f in cc
 
-kinded : (P : Checked) (i : ℕ) → i < length (rows P) → IsValued (at (rows P) i).node → (o : Option Kind) → kind P i ≡ o → (k : Kind) × (kind P i ≡ Some k)
+kinded : (P : Checked) (i : ℕ) → i < length (rows P) → IsValued (at (rows P) i).node → (o : Option Kind) → kind P i ≡ o
+    → (k : Kind) × (kind P i ≡ Some k)
 kinded P i less v (Some k) e = (k, e)
 kinded P i less v None e =
-    let d : Some Int ≡ None = sym (P.kinded.endless i less (λ o g. no_nothing P i o g (sym (P.kinded.ends i o less g) ∙ e) less v)) ∙ e in cc
+    let d : Some Int ≡ None =
+    sym (P.kinded.endless i less (λ o g. no_nothing P i o g (sym (P.kinded.ends i o less g) ∙ e) less v)) ∙ e in cc
 
 -- each expression of a checked program has a kind
-pub has_kind : (P : Checked) (i : ℕ) → i < length (rows P) → is_expression (at (rows P) i).node ≡ true → (k : Kind) × (kind P i ≡ Some k)
+pub has_kind : (P : Checked) (i : ℕ) → i < length (rows P) → is_expression (at (rows P) i).node ≡ true
+    → (k : Kind) × (kind P i ≡ Some k)
 has_kind P i less e = kinded P i less (valued_expression (at (rows P) i).node e) (kind P i) refl
 
 -- and so has each binder
-pub binder_has_kind : (P : Checked) (i : ℕ) → i < length (rows P) → is_binder (at (rows P) i).node ≡ true → (k : Kind) × (kind P i ≡ Some k)
+pub binder_has_kind : (P : Checked) (i : ℕ) → i < length (rows P) → is_binder (at (rows P) i).node ≡ true
+    → (k : Kind) × (kind P i ≡ Some k)
 binder_has_kind P i less e = kinded P i less (valued_binder (at (rows P) i).node e) (kind P i) refl

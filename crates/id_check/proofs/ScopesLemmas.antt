@@ -10,10 +10,12 @@ use Rattle.id_table.specs.Rows.{at}
 use Rattle.id_table.specs.Tables.{around, is_binding, is_def, is_index, is_next, is_param}
 use Rattle.id_check.specs.declared.cause.CheckCause.{CheckCause}
 use Rattle.id_table.specs.declared.row.Node.{Node}
-use Rattle.id_table.specs.declared.row.Node.TheVariants.{Param, Block, Binding, Def, Program, NextUse, Next, Index, Body, Span}
+use Rattle.id_table.specs.declared.row.Node.TheVariants.{Param, Block, Binding, Def, Program, NextUse, Next, Index}
+use Rattle.id_table.specs.declared.row.Node.TheVariants.{Body, Span}
 use Rattle.id_check.specs.Names.{seen}
 use Rattle.id_check.specs.Scopes.{closes, confines, is_next_use, keeps, looks, sees, sees_own, takes}
-use Rattle.id_check.specs.Scopes.{binder_at, binder_by, binder_in, binder_of, binds, bound_name, first_of, held, is_name, is_scope, used_name}
+use Rattle.id_check.specs.Scopes.{binder_at, binder_by, binder_in, binder_of, binds, bound_name, first_of, held}
+use Rattle.id_check.specs.Scopes.{is_name, is_scope, used_name}
 use Rattle.id_check.specs.Causes.{repeated, second, seconds}
 
 -- ---- tests
@@ -65,7 +67,8 @@ or_none (Some a) p e = refl
 
 -- ---- what a scope keeps
 
-pub keeps_inside : (R : List Row) (s b : ℕ) → takes (at R s).node (at R b).node ≡ true → (at R s).first ≤ b → b < s → keeps R s b ≡ true
+pub keeps_inside : (R : List Row) (s b : ℕ) → takes (at R s).node (at R b).node ≡ true → (at R s).first ≤ b → b < s
+    → keeps R s b ≡ true
 keeps_inside R s b e g h = inside (takes (at R s).node (at R b).node) (at R s).first b s e g h
 
 around_is : (a : Bool) (f i s : ℕ) → f ≤ i → i < s → (a && (nat_le f i && nat_lt i s)) ≡ a
@@ -91,7 +94,8 @@ takes-none (Def x h k b) n e = cc
 takes-none Program n e = cc
 takes-none _ n e = refl
 
-takes-neither : (m n : Node) → is_binding n ≡ false → is_param n ≡ false → is_def n ≡ false → is_next n ≡ false → is_next_use n ≡ false → is_index n ≡ false →
+takes-neither : (m n : Node) → is_binding n ≡ false → is_param n ≡ false → is_def n ≡ false → is_next n ≡ false
+    → is_next_use n ≡ false → is_index n ≡ false →
     takes m n ≡ false
 takes-neither (Block b) n e f g i j k = e
 takes-neither Body n e f g i j k = ap (λ t. t || is_index n) (ap (λ t. t || is_next n) e ∙ i) ∙ k
@@ -147,12 +151,14 @@ pub confines_none : (R : List Row) (s b : ℕ) → keeps R s b ≡ false → con
 confines_none R s b e = implied (takes (at R s).node (at R b).node) (closes (at R s).node (at R b).node) (around R s b)
     (closes-none (at R s).node (at R b).node) e
 
-pub confines_is : (R : List Row) (s b : ℕ) → (at R s).first ≤ b → b < s → confines R s b ≡ closes (at R s).node (at R b).node
+pub confines_is : (R : List Row) (s b : ℕ) → (at R s).first ≤ b → b < s
+    → confines R s b ≡ closes (at R s).node (at R b).node
 confines_is R s b g h = around_is (closes (at R s).node (at R b).node) (at R s).first b s g h
 
 -- ---- what a scope binds
 
-pub binds_open : (R : List Row) (s x b : ℕ) → keeps R s b ≡ true → held R b s ≡ false → binds R s x b ≡ is_name x (bound_name (at R b).node)
+pub binds_open : (R : List Row) (s x b : ℕ) → keeps R s b ≡ true → held R b s ≡ false
+    → binds R s x b ≡ is_name x (bound_name (at R b).node)
 binds_open R s x b e f = open_one (keeps R s b) (held R b s) (is_name x (bound_name (at R b).node)) e f
 
 pub binds_shut : (R : List Row) (s x b : ℕ) → held R b s ≡ true → binds R s x b ≡ false
@@ -165,15 +171,20 @@ binds_none R s x b e = none_one (keeps R s b) (held R b s) (is_name x (bound_nam
 pub binder_in-none : (R : List Row) (s x n : ℕ) → ((b : ℕ) → b < n → keeps R s b ≡ false) → binder_in R s x n ≡ None
 binder_in-none R s x zero h = refl
 binder_in-none R s x (suc n) h =
-    let one : (if binds R s x n then Some n else None) ≡ None = ap (λ t. if t then Some n else None) (binds_none R s x n (h n (omega arith))) in
-    or_none (binder_in R s x n) (if binds R s x n then Some n else None) one ∙ binder_in-none R s x n (λ b less. h b (omega arith))
+    let one : (if binds R s x n then Some n else None) ≡ None =
+    ap (λ t. if t then Some n else None) (binds_none R s x n (h n (omega arith))) in
+    or_none (binder_in R s x n) (if binds R s x n then Some n else None) one
+    ∙ binder_in-none R s x n (λ b less. h b (omega arith))
 
 pub binder_in-open : (R : List Row) (s x b : ℕ) → keeps R s b ≡ true → held R b s ≡ false
-    → option_or (binder_in R s x b) (if is_name x (bound_name (at R b).node) then Some b else None) ≡ binder_in R s x (suc b)
-binder_in-open R s x b e f = ap (λ t. option_or (binder_in R s x b) (if t then Some b else None)) (sym (binds_open R s x b e f))
+    → option_or (binder_in R s x b) (if is_name x (bound_name (at R b).node) then Some b else None)
+    ≡ binder_in R s x (suc b)
+binder_in-open R s x b e f =
+    ap (λ t. option_or (binder_in R s x b) (if t then Some b else None)) (sym (binds_open R s x b e f))
 
 pub binder_in-shut : (R : List Row) (s x b : ℕ) → binds R s x b ≡ false → binder_in R s x b ≡ binder_in R s x (suc b)
-binder_in-shut R s x b e = sym (or_none (binder_in R s x b) (if binds R s x b then Some b else None) (ap (λ t. if t then Some b else None) e))
+binder_in-shut R s x b e =
+    sym (or_none (binder_in R s x b) (if binds R s x b then Some b else None) (ap (λ t. if t then Some b else None) e))
 
 -- ---- second binders
 
@@ -188,14 +199,16 @@ seconds-none R s (suc n) h =
     ∙ second-none R s n (bound_name (at R n).node) (λ x. binds_none R s x n (h n (omega arith)))
 
 pub seconds-shut : (R : List Row) (s b : ℕ) → ((x : ℕ) → binds R s x b ≡ false) → seconds R s (suc b) ≡ seconds R s b
-seconds-shut R s b h = ap (λ cs. seconds R s b ++ cs) (second-none R s b (bound_name (at R b).node) h) ∙ append-nil (seconds R s b)
+seconds-shut R s b h =
+    ap (λ cs. seconds R s b ++ cs) (second-none R s b (bound_name (at R b).node) h) ∙ append-nil (seconds R s b)
 
 pub name_same : (x : ℕ) → is_name x (Some x) ≡ true
 name_same x = grind (arith, nat_tests)
 
 -- the cause at a row that is open to the scope
-pub second-open : (R : List Row) (s b : ℕ) (o : Option ℕ) (cs : List CheckCause) → o ≡ bound_name (at R b).node → keeps R s b ≡ true → held R b s ≡ false
-    → ((x : ℕ) → o ≡ Some x → cs ≡ repeated R b (binder_in R s x b)) → (o ≡ None → cs ≡ []) → cs ≡ second R s b o
+pub second-open : (R : List Row) (s b : ℕ) (o : Option ℕ) (cs : List CheckCause) → o ≡ bound_name (at R b).node
+    → keeps R s b ≡ true → held R b s ≡ false → ((x : ℕ) → o ≡ Some x → cs ≡ repeated R b (binder_in R s x b))
+    → (o ≡ None → cs ≡ []) → cs ≡ second R s b o
 second-open R s b None cs e f g h i = i refl
 second-open R s b (Some x) cs e f g h i =
     let is : binds R s x b ≡ true = binds_open R s x b f g ∙ ap (is_name x) (sym e) ∙ name_same x in
@@ -203,18 +216,22 @@ second-open R s b (Some x) cs e f g h i =
 
 -- ---- what a name means
 
-binder_at-more : (R : List Row) (s i : ℕ) (o : Option ℕ) → binder_by R i o (suc s) ≡ option_or (binder_by R i o s) (seen R s s i o)
+binder_at-more : (R : List Row) (s i : ℕ) (o : Option ℕ)
+    → binder_by R i o (suc s) ≡ option_or (binder_by R i o s) (seen R s s i o)
 binder_at-more R s i None = refl
 binder_at-more R s i (Some x) = refl
 
 -- what one more scope gives
-pub binder_at-step : (R : List Row) (s i : ℕ) → binder_at R (suc s) i ≡ option_or (binder_at R s i) (seen R s s i (used_name (at R i).node))
+pub binder_at-step : (R : List Row) (s i : ℕ)
+    → binder_at R (suc s) i ≡ option_or (binder_at R s i) (seen R s s i (used_name (at R i).node))
 binder_at-step R s i = binder_at-more R s i (used_name (at R i).node)
 
 -- a row that is no scope gives none
-pub binder_at-no_scope : (R : List Row) (s i : ℕ) → is_scope (at R s).node ≡ false → binder_at R (suc s) i ≡ binder_at R s i
+pub binder_at-no_scope : (R : List Row) (s i : ℕ) → is_scope (at R s).node ≡ false
+    → binder_at R (suc s) i ≡ binder_at R s i
 binder_at-no_scope R s i e =
-    binder_at-step R s i ∙ or_none (binder_at R s i) (seen R s s i (used_name (at R i).node)) (by (used_name (at R i).node))
+    binder_at-step R s i
+    ∙ or_none (binder_at R s i) (seen R s s i (used_name (at R i).node)) (by (used_name (at R i).node))
   where
     shut : (a b c : Bool) → a ≡ false → ((a && b) && c) ≡ false
     shut false b c f = refl
@@ -224,7 +241,8 @@ binder_at-no_scope R s i e =
     by None = refl
     by (Some x) =
         ap (λ t. if t then binder_in R s x s else None)
-        (shut (looks (at R s).node (at R i).node) (around R s i) (sees_own (at R i).node || held R i s) (looks-none (at R s).node (at R i).node e))
+        (shut (looks (at R s).node (at R i).node) (around R s i) (sees_own (at R i).node || held R i s)
+        (looks-none (at R s).node (at R i).node e))
 
 -- no scope before a row is round it
 pub binder_at-none : (R : List Row) (n i : ℕ) → n ≤ suc i → binder_at R n i ≡ None
@@ -233,8 +251,11 @@ binder_at-none R n i h = by (used_name (at R i).node)
     none : (x m : ℕ) → m ≤ suc i → binder_of R x i m ≡ None
     none x zero k = refl
     none x (suc m) k =
-        let out : sees R m i ≡ false = unseen (looks (at R m).node (at R i).node) (sees_own (at R i).node || held R i m) (at R m).first i m (omega arith) in
-        or_none (binder_of R x i m) (if sees R m i then binder_in R m x m else None) (ap (λ t. if t then binder_in R m x m else None) out) ∙
+        let out : sees R m i ≡ false =
+        unseen (looks (at R m).node (at R i).node) (sees_own (at R i).node || held R i m) (at R m).first i m
+        (omega arith) in
+        or_none (binder_of R x i m) (if sees R m i then binder_in R m x m
+        else None) (ap (λ t. if t then binder_in R m x m else None) out) ∙
         none x m (omega arith)
 
     by : (o : Option ℕ) → binder_by R i o n ≡ None
@@ -251,7 +272,8 @@ pub first_of-some : (f : ℕ → Option ℕ) (n y : ℕ) → first_of f n ≡ So
 first_of-some f zero y e = cc
 first_of-some f (suc n) y e = by (first_of f n) refl e (λ g. first_of-some f n y g)
   where
-    by : (o : Option ℕ) → first_of f n ≡ o → option_or o (f n) ≡ Some y → (first_of f n ≡ Some y → (k : ℕ) × (k < n) × (f k ≡ Some y))
+    by : (o : Option ℕ) → first_of f n ≡ o → option_or o (f n) ≡ Some y
+        → (first_of f n ≡ Some y → (k : ℕ) × (k < n) × (f k ≡ Some y))
         → (k : ℕ) × (k < suc n) × (f k ≡ Some y)
     by None g h r = (n, omega arith, h)
     by (Some z) g h r = let w = r (g ∙ h) in let less = w.1 in (w.0, omega arith, w.2)

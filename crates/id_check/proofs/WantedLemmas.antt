@@ -62,22 +62,25 @@ same_is Nested Bool e = absurd (false≢true e)
 same_is Nested Array e = absurd (false≢true e)
 
 -- an expression of which a kind is wanted has it, where there is no cause
-wanted_kind : (P : Checked) (k : Kind) (a : ℕ) → a < length (rows P) → is_expression (at (rows P) a).node ≡ true → wrong (rows P) (kind P) k a ≡ []
-    → kind P a ≡ Some k
+wanted_kind : (P : Checked) (k : Kind) (a : ℕ) → a < length (rows P) → is_expression (at (rows P) a).node ≡ true
+    → wrong (rows P) (kind P) k a ≡ [] → kind P a ≡ Some k
 wanted_kind P k a less e f =
     let w = has_kind P a less e in
-    w.1 ∙ ap (λ z. Some z) (same_is w.0 k (by (same_kind w.0 k) (sym (ap (λ o. unless_found k o (at (rows P) a).place) w.1) ∙ f)))
+    w.1 ∙ ap (λ z. Some z)
+    (same_is w.0 k (by (same_kind w.0 k) (sym (ap (λ o. unless_found k o (at (rows P) a).place) w.1) ∙ f)))
   where
-    by : (t : Truth) → (if t then [] else (WrongKind (at (rows P) a).place k (has_kind P a less e).0 ∷ [])) ≡ [] → t ≡ true
+    by : (t : Truth) → (if t then [] else (WrongKind (at (rows P) a).place k (has_kind P a less e).0 ∷ [])) ≡ []
+        → t ≡ true
     by true g = refl
     by false g = cc
 
 -- the operand of an operator before it
 pub unary_row : (P : Checked) (i a : ℕ) (p : UnaryOp) → Stands P i (Unary p a) → kind P a ≡ Some (unary_kind p)
-unary_row P i a p h = let w = part_row P i a (Unary p a) h refl in wanted_kind P (unary_kind p) a w.0 w.1 (none_in P i (Unary p a) h)
+unary_row P i a p h =
+    let w = part_row P i a (Unary p a) h refl in wanted_kind P (unary_kind p) a w.0 w.1 (none_in P i (Unary p a) h)
 
-both_wanted : (P : Checked) (i a b : ℕ) (p : BinaryOp) (k : Kind) → Stands P i (Binary p a b) → wrong_both (rows P) (kind P) k a b ≡ []
-    → (kind P a ≡ Some k) × (kind P b ≡ Some k)
+both_wanted : (P : Checked) (i a b : ℕ) (p : BinaryOp) (k : Kind) → Stands P i (Binary p a b)
+    → wrong_both (rows P) (kind P) k a b ≡ [] → (kind P a ≡ Some k) × (kind P b ≡ Some k)
 both_wanted P i a b p k h e =
     let v = part_row P i a (Binary p a b) h (inl refl) in
     let w = part_row P i b (Binary p a b) h (inr refl) in
@@ -85,11 +88,14 @@ both_wanted P i a b p k h e =
     (wanted_kind P k a v.0 v.1 n.0, wanted_kind P k b w.0 w.1 n.1)
 
 -- the operands of arithmetic are numbers
-pub arithmetic_row : (P : Checked) (i a b : ℕ) (o : Arithmetic) → Stands P i (Binary (class.Arithmetic o) a b) → (kind P a ≡ Some Int) × (kind P b ≡ Some Int)
-arithmetic_row P i a b o h = both_wanted P i a b (class.Arithmetic o) Int h (none_in P i (Binary (class.Arithmetic o) a b) h)
+pub arithmetic_row : (P : Checked) (i a b : ℕ) (o : Arithmetic) → Stands P i (Binary (class.Arithmetic o) a b)
+    → (kind P a ≡ Some Int) × (kind P b ≡ Some Int)
+arithmetic_row P i a b o h =
+    both_wanted P i a b (class.Arithmetic o) Int h (none_in P i (Binary (class.Arithmetic o) a b) h)
 
 -- those of a connective are truth values
-pub logic_row : (P : Checked) (i a b : ℕ) (o : Logic) → Stands P i (Binary (class.Logic o) a b) → (kind P a ≡ Some Bool) × (kind P b ≡ Some Bool)
+pub logic_row : (P : Checked) (i a b : ℕ) (o : Logic) → Stands P i (Binary (class.Logic o) a b)
+    → (kind P a ≡ Some Bool) × (kind P b ≡ Some Bool)
 logic_row P i a b o h = both_wanted P i a b (class.Logic o) Bool h (none_in P i (Binary (class.Logic o) a b) h)
 
 -- whether the comparison is `==` or `<>`
@@ -99,17 +105,22 @@ is_equality Ne = true
 is_equality _ = false
 
 -- those of the other comparisons are numbers
-pub order_row : (P : Checked) (i a b : ℕ) (o : Comparison) → is_equality o ≡ false → Stands P i (Binary (class.Comparison o) a b)
-    → (kind P a ≡ Some Int) × (kind P b ≡ Some Int)
-order_row P i a b Lt e h = both_wanted P i a b (class.Comparison Lt) Int h (none_in P i (Binary (class.Comparison Lt) a b) h)
-order_row P i a b Le e h = both_wanted P i a b (class.Comparison Le) Int h (none_in P i (Binary (class.Comparison Le) a b) h)
-order_row P i a b Gt e h = both_wanted P i a b (class.Comparison Gt) Int h (none_in P i (Binary (class.Comparison Gt) a b) h)
-order_row P i a b Ge e h = both_wanted P i a b (class.Comparison Ge) Int h (none_in P i (Binary (class.Comparison Ge) a b) h)
+pub order_row : (P : Checked) (i a b : ℕ) (o : Comparison) → is_equality o ≡ false
+    → Stands P i (Binary (class.Comparison o) a b) → (kind P a ≡ Some Int) × (kind P b ≡ Some Int)
+order_row P i a b Lt e h =
+    both_wanted P i a b (class.Comparison Lt) Int h (none_in P i (Binary (class.Comparison Lt) a b) h)
+order_row P i a b Le e h =
+    both_wanted P i a b (class.Comparison Le) Int h (none_in P i (Binary (class.Comparison Le) a b) h)
+order_row P i a b Gt e h =
+    both_wanted P i a b (class.Comparison Gt) Int h (none_in P i (Binary (class.Comparison Gt) a b) h)
+order_row P i a b Ge e h =
+    both_wanted P i a b (class.Comparison Ge) Int h (none_in P i (Binary (class.Comparison Ge) a b) h)
 order_row P i a b Eq e h = let d : true ≡ false = e in cc
 order_row P i a b Ne e h = let d : true ≡ false = e in cc
 
-equal_kinds : (P : Checked) (i a b : ℕ) (p : BinaryOp) → Stands P i (Binary p a b) → wrong_equals (rows P) (kind P) (kind P a) a b ≡ []
-    → ((kind P a ≡ Some Int) ⊎ (kind P a ≡ Some Bool)) × (kind P b ≡ kind P a)
+equal_kinds : (P : Checked) (i a b : ℕ) (p : BinaryOp) → Stands P i (Binary p a b)
+    → wrong_equals (rows P) (kind P) (kind P a) a b ≡ [] → ((kind P a ≡ Some Int) ⊎ (kind P a ≡ Some Bool))
+    × (kind P b ≡ kind P a)
 equal_kinds P i a b p h e = by v.0 v.1
   where
     v : (k : Kind) × (kind P a ≡ Some k)
@@ -121,14 +132,21 @@ equal_kinds P i a b p h e = by v.0 v.1
     by : (k : Kind) → kind P a ≡ Some k → ((kind P a ≡ Some Int) ⊎ (kind P a ≡ Some Bool)) × (kind P b ≡ kind P a)
     by Int f = (inl f, right Int (sym (ap (λ o. wrong_equals (rows P) (kind P) o a b) f) ∙ e) ∙ sym f)
     by Bool f = (inr f, right Bool (sym (ap (λ o. wrong_equals (rows P) (kind P) o a b) f) ∙ e) ∙ sym f)
-    by Array f = let d : WrongKind (at (rows P) a).place Int Array ∷ [] ≡ [] = sym (ap (λ o. wrong_equals (rows P) (kind P) o a b) f) ∙ e in cc
-    by Nested f = let d : WrongKind (at (rows P) a).place Int Nested ∷ [] ≡ [] = sym (ap (λ o. wrong_equals (rows P) (kind P) o a b) f) ∙ e in cc
+    by Array f =
+        let d : WrongKind (at (rows P) a).place Int Array ∷ [] ≡ [] =
+        sym (ap (λ o. wrong_equals (rows P) (kind P) o a b) f) ∙ e in cc
+    by Nested f =
+        let d : WrongKind (at (rows P) a).place Int Nested ∷ [] ≡ [] =
+        sym (ap (λ o. wrong_equals (rows P) (kind P) o a b) f) ∙ e in cc
 
 -- those of `==` and `<>` are both numbers or both truth values
-pub equality_row : (P : Checked) (i a b : ℕ) (o : Comparison) → is_equality o ≡ true → Stands P i (Binary (class.Comparison o) a b)
-    → ((kind P a ≡ Some Int) ⊎ (kind P a ≡ Some Bool)) × (kind P b ≡ kind P a)
-equality_row P i a b Eq e h = equal_kinds P i a b (class.Comparison Eq) h (none_in P i (Binary (class.Comparison Eq) a b) h)
-equality_row P i a b Ne e h = equal_kinds P i a b (class.Comparison Ne) h (none_in P i (Binary (class.Comparison Ne) a b) h)
+pub equality_row : (P : Checked) (i a b : ℕ) (o : Comparison) → is_equality o ≡ true
+    → Stands P i (Binary (class.Comparison o) a b) → ((kind P a ≡ Some Int) ⊎ (kind P a ≡ Some Bool))
+    × (kind P b ≡ kind P a)
+equality_row P i a b Eq e h =
+    equal_kinds P i a b (class.Comparison Eq) h (none_in P i (Binary (class.Comparison Eq) a b) h)
+equality_row P i a b Ne e h =
+    equal_kinds P i a b (class.Comparison Ne) h (none_in P i (Binary (class.Comparison Ne) a b) h)
 equality_row P i a b Lt e h = absurd (false≢true e)
 equality_row P i a b Le e h = absurd (false≢true e)
 equality_row P i a b Gt e h = absurd (false≢true e)
@@ -146,12 +164,16 @@ two_wanted P i a b n j k h f g e =
     (wanted_kind P j a v.0 v.1 z.0, wanted_kind P k b w.0 w.1 z.1)
 
 -- the bounds of an array are numbers
-pub array_row : {nested : Truth} (P : Checked) (i a b : ℕ) → Stands P i (node.Array nested a b) → (kind P a ≡ Some Int) × (kind P b ≡ Some Int)
-array_row {nested} P i a b h = two_wanted P i a b (node.Array nested a b) Int Int h (inl refl) (inr refl) (none_in P i (node.Array nested a b) h)
+pub array_row : {nested : Truth} (P : Checked) (i a b : ℕ) → Stands P i (node.Array nested a b)
+    → (kind P a ≡ Some Int) × (kind P b ≡ Some Int)
+array_row {nested} P i a b h =
+    two_wanted P i a b (node.Array nested a b) Int Int h (inl refl) (inr refl) (none_in P i (node.Array nested a b) h)
 
 -- and so are those of an index
-pub bounds_row : (P : Checked) (i a b : ℕ) → Stands P i (node.Bounds a b) → (kind P a ≡ Some Int) × (kind P b ≡ Some Int)
-bounds_row P i a b h = two_wanted P i a b (node.Bounds a b) Int Int h (inl refl) (inr refl) (none_in P i (node.Bounds a b) h)
+pub bounds_row : (P : Checked) (i a b : ℕ) → Stands P i (node.Bounds a b)
+    → (kind P a ≡ Some Int) × (kind P b ≡ Some Int)
+bounds_row P i a b h =
+    two_wanted P i a b (node.Bounds a b) Int Int h (inl refl) (inr refl) (none_in P i (node.Bounds a b) h)
 
 -- where an array is wanted and there is no cause, the kind is one of arrays
 array_is : (k : Kind) (e : ℕ) → unless_array (Some k) e ≡ [] → (nested : Truth) × (k ≡ array_kind_of nested)
@@ -160,8 +182,9 @@ array_is Bool e f = let d : WrongKind e Array Bool ∷ [] ≡ [] = f in cc
 array_is Array e f = (false, refl)
 array_is Nested e f = (true, refl)
 
-cell_wanted : (P : Checked) (i t j : ℕ) (n : Node) → Stands P i n → HasOperand n t → HasOperand n j → wrong_cell (rows P) (kind P) t j ≡ []
-    → (nested : Truth) × (kind P t ≡ Some (array_kind_of nested)) × (kind P j ≡ Some Int)
+cell_wanted : (P : Checked) (i t j : ℕ) (n : Node) → Stands P i n → HasOperand n t → HasOperand n j
+    → wrong_cell (rows P) (kind P) t j ≡ [] → (nested : Truth) × (kind P t ≡ Some (array_kind_of nested))
+    × (kind P j ≡ Some Int)
 cell_wanted P i t j n h f g e =
     let v = part_row P i t n h f in
     let w = part_row P i j n h g in
@@ -172,15 +195,18 @@ cell_wanted P i t j n h f g e =
     (x.0, k.1 ∙ ap (λ o. Some o) x.1, wanted_kind P Int j w.0 w.1 z.1)
 
 -- the target of a fetch is an array, and its index a number
-pub fetch_row : (P : Checked) (i t j : ℕ) → Stands P i (Fetch t j) → (nested : Truth) × (kind P t ≡ Some (array_kind_of nested)) × (kind P j ≡ Some Int)
+pub fetch_row : (P : Checked) (i t j : ℕ) → Stands P i (Fetch t j)
+    → (nested : Truth) × (kind P t ≡ Some (array_kind_of nested)) × (kind P j ≡ Some Int)
 fetch_row P i t j h = cell_wanted P i t j (Fetch t j) h (inl refl) (inr refl) (none_in P i (Fetch t j) h)
 
 -- and so are those of a store
-pub address_row : (P : Checked) (i t j : ℕ) → Stands P i (Address t j) → (nested : Truth) × (kind P t ≡ Some (array_kind_of nested)) × (kind P j ≡ Some Int)
+pub address_row : (P : Checked) (i t j : ℕ) → Stands P i (Address t j)
+    → (nested : Truth) × (kind P t ≡ Some (array_kind_of nested)) × (kind P j ≡ Some Int)
 address_row P i t j h = cell_wanted P i t j (Address t j) h (inl refl) (inr refl) (none_in P i (Address t j) h)
 
 -- an array is one, and a fetch and an address have the kind of its elements
-pub array_kind : {nested : Truth} (P : Checked) (i a b : ℕ) → Stands P i (node.Array nested a b) → kind P i ≡ Some (array_kind_of nested)
+pub array_kind : {nested : Truth} (P : Checked) (i a b : ℕ) → Stands P i (node.Array nested a b)
+    → kind P i ≡ Some (array_kind_of nested)
 array_kind {nested} P i a b h = kind_fixed P i (node.Array nested a b) (array_kind_of nested) h refl
 
 pub fetch_kind : (P : Checked) (i t j : ℕ) → Stands P i (Fetch t j) → kind P i ≡ Some (kind_within (kind P t))
@@ -194,7 +220,8 @@ pub store_row : (P : Checked) (i a v t j : ℕ) → Stands P i (Store a v) → S
 store_row P i a v t j h g =
     let k = address_kind P a t j g in
     let w = part_row P i v (Store a v) h refl in
-    wanted_kind P (kind_within (kind P t)) v w.0 w.1 (sym (ap (λ o. wrong_like (rows P) (kind P) o v) k) ∙ none_in P i (Store a v) h) ∙ sym k
+    wanted_kind P (kind_within (kind P t)) v w.0 w.1 (sym (ap (λ o. wrong_like (rows P) (kind P) o v) k)
+    ∙ none_in P i (Store a v) h) ∙ sym k
 
 -- ---- conditionals
 
@@ -215,7 +242,8 @@ if_row P i s x y h = (sym along, other ∙ sym along)
     other : kind P y ≡ kind P x
     other =
         let w = part_row P i y (If s x y) h (inr refl) in
-        wanted_kind P first.0 y w.0 w.1 (sym (ap (λ o. wrong_like (rows P) (kind P) o y) first.1) ∙ none_in P i (If s x y) h) ∙ sym first.1
+        wanted_kind P first.0 y w.0 w.1 (sym (ap (λ o. wrong_like (rows P) (kind P) o y) first.1)
+        ∙ none_in P i (If s x y) h) ∙ sym first.1
 
 -- ---- loops
 
@@ -253,7 +281,8 @@ loop_row P n h w l s = kind_along P n l (Loop h w l) s refl
 
 -- a loop's variable has the kind of what its name means outside, and so has what it is next
 pub next_row : (P : Checked) (m x k o v : ℕ) → Stands P m (Next x k o v)
-    → (b : ℕ) × (n : ℕ) × IsLoopOf (rows P) n (at (rows P) o).block × IsBoundAt P o x b n × (kind P m ≡ kind P b) × (kind P v ≡ kind P m)
+    → (b : ℕ) × (n : ℕ) × IsLoopOf (rows P) n (at (rows P) o).block × IsBoundAt P o x b n × (kind P m ≡ kind P b)
+    × (kind P v ≡ kind P m)
 next_row P m x k o v h =
     let u = next_use_row P m x k o v h in
     let w = bound_use_row P o x u in
@@ -265,13 +294,15 @@ next_row P m x k o v h =
       w.2,
       w.3,
       along ∙ kind_along P o w.0 (NextUse x) u (ap link_of_name (w.3).binder),
-      wanted_kind P first.0 v z.0 z.1 (sym (ap (λ q. wrong_like (rows P) (kind P) q v) (sym along ∙ first.1)) ∙ none_in P m (Next x k o v) h) ∙ sym first.1,
+      wanted_kind P first.0 v z.0 z.1 (sym (ap (λ q. wrong_like (rows P) (kind P) q v) (sym along ∙ first.1))
+          ∙ none_in P m (Next x k o v) h) ∙ sym first.1,
     )
 
 -- ---- calls
 
 -- the number that a function gives first, where it gives one alone
-first_of-only : (f : ℕ → Option ℕ) (n m c : ℕ) → m < n → f m ≡ Some c → ((i : ℕ) (d : ℕ) → f i ≡ Some d → i ≡ m) → first_of f n ≡ Some c
+first_of-only : (f : ℕ → Option ℕ) (n m c : ℕ) → m < n → f m ≡ Some c → ((i : ℕ) (d : ℕ) → f i ≡ Some d → i ≡ m)
+    → first_of f n ≡ Some c
 first_of-only f zero m c less e once = absurd (omega arith)
 first_of-only f (suc n) m c less e once = elim (cases_lt m n) [
   | inl l ↦ ap (λ o. option_or o (f n)) (first_of-only f n m c l e once)
@@ -300,21 +331,26 @@ counted_call _ e c g = let x : None ≡ Some c = g in cc
 count_row : (P : Checked) (i e c : ℕ) → Stands P i (Call e c) → count_at (rows P) (length (rows P)) e ≡ Some c
 count_row P i e c h =
     first_of-only (λ k. count_in e (at (rows P) k).node) (length (rows P)) i c h.within
-    (ap (count_in e) h.node ∙ ap (λ t. if t then Some c else None) (eqb-refl e)) (λ k d g. only k d (counted_call (at (rows P) k).node e d g))
+    (ap (count_in e) h.node ∙ ap (λ t. if t then Some c else None) (eqb-refl e))
+    (λ k d g. only k d (counted_call (at (rows P) k).node e d g))
   where
     eqb-refl : (n : ℕ) → nat_eq n n ≡ true
     eqb-refl n = (Decides-eqb n n).1 refl
 
     only : (k d : ℕ) → (at (rows P) k).node ≡ Call e d → k ≡ i
     only k d g = elim (cases_lt k (length (rows P))) [
-      | inl l ↦ (table_of P).one_call k i e (record { count = d; within = l; node = g }) (record { count = c; within = h.within; node = h.node })
-      | inr l ↦ let x : Head ≡ Call e d = sym (ap (λ (r : Row). r.node) (get_or_past (rows P) k no_row l)) ∙ g in absurd (false≢true (ap is_expression x))
+      | inl l ↦ (table_of P).one_call k i e (record { count = d; within = l; node = g })
+          (record { count = c; within = h.within; node = h.node })
+      | inr l ↦ let x : Head ≡ Call e d =
+          sym (ap (λ (r : Row). r.node) (get_or_past (rows P) k no_row l)) ∙ g in
+          absurd (false≢true (ap is_expression x))
     ]
 
 equal_count : (R : List Row) (h c e : ℕ) → wrong_count R (Some h) c e ≡ [] → c ≡ length (params_at R h)
 equal_count R h c e f = by (nat_eq c (length (params_at R h))) refl f
   where
-    by : (t : Truth) → nat_eq c (length (params_at R h)) ≡ t → (if t then [] else (WrongCount e ∷ [])) ≡ [] → c ≡ length (params_at R h)
+    by : (t : Truth) → nat_eq c (length (params_at R h)) ≡ t → (if t then [] else (WrongCount e ∷ [])) ≡ []
+        → c ≡ length (params_at R h)
     by true g q = eqb-true c (length (params_at R h)) g
     by false g q = let x : WrongCount e ∷ [] ≡ [] = q in cc
 
@@ -325,9 +361,11 @@ callee_head P e d h w = ap (callee (rows P)) w.binder ∙ ap head_in w.definitio
 pub call_row : (P : Checked) (i e c d h : ℕ) → Stands P i (Call e c) → (w : Calls P e d h)
     → (c ≡ length (params_at (rows P) h)) × (kind P i ≡ Some w.result)
 call_row P i e c d h s w = (
-  equal_count (rows P) h c (at (rows P) i).place (sym (ap (λ o. wrong_count (rows P) o c (at (rows P) i).place) (callee_head P e d h w)) ∙
+  equal_count (rows P) h c (at (rows P) i).place
+      (sym (ap (λ o. wrong_count (rows P) o c (at (rows P) i).place) (callee_head P e d h w)) ∙
       none_in P i (Call e c) s),
-  kind_along P i d (Call e c) s (ap link_of_name w.binder) ∙ kind_fixed P d (Def w.name h w.result w.body) w.result w.definition refl,
+  kind_along P i d (Call e c) s (ap link_of_name w.binder)
+      ∙ kind_fixed P d (Def w.name h w.result w.body) w.result w.definition refl,
 )
 
 -- the call that an argument belongs to
@@ -340,7 +378,13 @@ pub record IsArgument (P : Checked) (m e k v : ℕ) : Type 0 where
 pub argument_call : (P : Checked) (m e k v : ℕ) → Stands P m (Arg e k v) → IsArgument P m e k v
 argument_call P m e k v s =
     let a = (table_of P).arg_of m e k (record { value = v; within = s.within; node = s.node }) in
-    record { call = a.row; count = a.call.count; stands = record { within = a.call.within; node = a.call.node }; low = a.stands.index }
+    record {
+      call = a.row;
+      count = a.call.count;
+      stands = record { within = a.call.within; node = a.call.node };
+      low =
+          a.stands.index;
+    }
 
 -- an argument has the kind of the parameter of its index, which is the row so far behind the head
 pub argument_row : (P : Checked) (m e k v d h : ℕ) → Stands P m (Arg e k v) → Calls P e d h
@@ -355,14 +399,22 @@ argument_row P m e k v d h s w = (param, same)
 
     param : Among (h + 1 + k) (params_at (rows P) h)
     param = param_at (rows P) (table_of P) h d
-        (record { name = w.name; result = w.result; body = w.body; within = w.definition.within; node = w.definition.node }) k (omega (arith, a.low, count))
+        (record {
+          name = w.name;
+          result = w.result;
+          body = w.body;
+          within = w.definition.within;
+          node =
+              w.definition.node;
+        }) k (omega (arith, a.low, count))
 
     none : wrong_like (rows P) (kind P) (kind P (h + 1 + k)) v ≡ []
     none =
         ap (λ t. if t then wrong_like (rows P) (kind P) (kind P (h + 1 + k)) v else []) (sym
-        (ap (is_count (rows P) h) (count_row P a.call e a.count a.stands) ∙ (Decides-eqb a.count (length (params_at (rows P) h))).1 count))
-        ∙ sym (ap (λ o. wrong_argument (rows P) (kind P) o (count_at (rows P) (length (rows P)) e) k v) (callee_head P e d h w))
-        ∙ none_in P m (Arg e k v) s
+        (ap (is_count (rows P) h) (count_row P a.call e a.count a.stands)
+        ∙ (Decides-eqb a.count (length (params_at (rows P) h))).1 count))
+        ∙ sym (ap (λ o. wrong_argument (rows P) (kind P) o (count_at (rows P) (length (rows P)) e) k v)
+        (callee_head P e d h w)) ∙ none_in P m (Arg e k v) s
 
     same : kind P v ≡ kind P (h + 1 + k)
     same =
@@ -379,7 +431,8 @@ argument_row P m e k v d h s w = (param, same)
 
 def_none : (P : Checked) (i x d b : ℕ) (k : Kind) → Stands P i (Def x d k b)
     → (wrong (rows P) (kind P) k b ≡ []) × (wrong_params (rows P) x (at (rows P) i).place (params_at (rows P) d) ≡ [])
-def_none P i x d b k h = both_nil (wrong (rows P) (kind P) k b) (wrong_params (rows P) x (at (rows P) i).place (params_at (rows P) d))
+def_none P i x d b k h =
+    both_nil (wrong (rows P) (kind P) k b) (wrong_params (rows P) x (at (rows P) i).place (params_at (rows P) d))
     (none_in P i (Def x d k b) h)
 
 -- the body of a definition has the kind of its result
@@ -387,31 +440,38 @@ pub def_row : (P : Checked) (i x d b : ℕ) (k : Kind) → Stands P i (Def x d k
 def_row P i x d b k h =
     let w = part_row P i b (Def x d k b) h refl in wanted_kind P k b w.0 w.1 (def_none P i x d b k h).0
 
-no_array : (R : List Row) (ps : List ℕ) (p : ℕ) → array_param R ps ≡ [] → Among p ps → is_array_param (at R p).node ≡ false
+no_array : (R : List Row) (ps : List ℕ) (p : ℕ) → array_param R ps ≡ [] → Among p ps
+    → is_array_param (at R p).node ≡ false
 no_array R [] p e a = absurd a
 no_array R (x ∷ xs) p e a = by (is_array_param (at R x).node) refl e a (no_array R xs p)
   where
-    by : (t : Truth) → is_array_param (at R x).node ≡ t → (if t then (MainKind (at R x).place ∷ []) else array_param R xs) ≡ [] → (p ≡ x) ⊎ Among p xs
-        → (array_param R xs ≡ [] → Among p xs → is_array_param (at R p).node ≡ false) → is_array_param (at R p).node ≡ false
+    by : (t : Truth) → is_array_param (at R x).node ≡ t
+        → (if t then (MainKind (at R x).place ∷ []) else array_param R xs) ≡ [] → (p ≡ x) ⊎ Among p xs
+        → (array_param R xs ≡ [] → Among p xs → is_array_param (at R p).node ≡ false)
+        → is_array_param (at R p).node ≡ false
     by true f g b r = cc
     by false f g (inl b) r = ap (λ z. is_array_param (at R z).node) b ∙ f
     by false f g (inr b) r = r g b
 
 -- `main` takes no array
-pub main_row : (P : Checked) (i d b p : ℕ) (k : Kind) → Stands P i (Def 0 d k b) → Among p (params_at (rows P) d) → is_array_param (at (rows P) p).node ≡ false
+pub main_row : (P : Checked) (i d b p : ℕ) (k : Kind) → Stands P i (Def 0 d k b) → Among p (params_at (rows P) d)
+    → is_array_param (at (rows P) p).node ≡ false
 main_row P i d b p k h a =
     no_array (rows P) (params_at (rows P) d) p
     (both_nil (array_param (rows P) (params_at (rows P) d))
-    (if nat_lt 16 (length (params_at (rows P) d)) then (TooManyParams (at (rows P) i).place ∷ []) else []) (def_none P i 0 d b k h).1).0 a
+    (if nat_lt 16 (length (params_at (rows P) d)) then (TooManyParams (at (rows P) i).place ∷ [])
+    else []) (def_none P i 0 d b k h).1).0 a
 
 -- a definition has at most 16 parameters
 pub few_params : (P : Checked) (i x d b : ℕ) (k : Kind) → Stands P i (Def x d k b) → length (params_at (rows P) d) ≤ 16
 few_params P i x d b k h =
     by (nat_lt 16 (length (params_at (rows P) d))) refl
     (both_nil (if nat_eq x 0 then array_param (rows P) (params_at (rows P) d) else [])
-    (if nat_lt 16 (length (params_at (rows P) d)) then (TooManyParams (at (rows P) i).place ∷ []) else []) (def_none P i x d b k h).1).1
+    (if nat_lt 16 (length (params_at (rows P) d)) then (TooManyParams (at (rows P) i).place ∷ [])
+    else []) (def_none P i x d b k h).1).1
   where
-    by : (t : Truth) → nat_lt 16 (length (params_at (rows P) d)) ≡ t → (if t then (TooManyParams (at (rows P) i).place ∷ []) else []) ≡ []
+    by : (t : Truth) → nat_lt 16 (length (params_at (rows P) d)) ≡ t
+        → (if t then (TooManyParams (at (rows P) i).place ∷ []) else []) ≡ []
         → length (params_at (rows P) d) ≤ 16
     by true e f = cc
     by false e f = grind (arith, nat_tests)

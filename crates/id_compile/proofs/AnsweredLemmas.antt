@@ -49,7 +49,8 @@ module _ {A E : Type 0} where
 
 -- ---- a program without graph
 
-pub refused_graph : (text : List ℕ) (P : Checked) (e : CompileError) → IsProgramOf text P → IsRefusedGraph P e → IsRefusedBy text e
+pub refused_graph : (text : List ℕ) (P : Checked) (e : CompileError) → IsProgramOf text P → IsRefusedGraph P e
+    → IsRefusedBy text e
 refused_graph text P (compiler.Text e) p h = absurd cc
 refused_graph text P (compiler.Tree e) p h = absurd cc
 refused_graph text P (compiler.Check c) p h = absurd cc
@@ -83,7 +84,8 @@ late_memory text Memory h = let n : Memory ≢ Write = λ k. absurd cc in (tt, n
 late_memory text Write h = absurd cc
 
 -- nor is a refused word
-pub late_words : (text : List ℕ) (P : Checked) (ws : List (List ℕ)) (e : EngineError) → AreRefusedFor P ws e → IsLate text e
+pub late_words : (text : List ℕ) (P : Checked) (ws : List (List ℕ)) (e : EngineError) → AreRefusedFor P ws e
+    → IsLate text e
 late_words text P ws (Compile x) h = absurd h
 late_words text P ws (MissingInput x) h = let n : MissingInput x ≢ Write = λ k. absurd cc in (tt, n)
 late_words text P ws (UnknownInput j) h = let n : UnknownInput j ≢ Write = λ k. absurd cc in (tt, n)

@@ -1,10 +1,13 @@
 -- Lemmas on specs/Machines.antt.
-use Rattle.std.proofs.Common.{◌≡◌, ℕ, suc, ◌+◌, ◌<◌, Bool, true, false, cond, eqb, eq-eqb, ◌||◌, Option, Some, None, List, [], ◌∷◌, ◌++◌, map, filter}
+use Rattle.std.proofs.Common.{◌≡◌, ℕ, suc, ◌+◌, ◌<◌, Bool, true, false, cond, eqb, eq-eqb, ◌||◌, Option, Some, None}
+use Rattle.std.proofs.Common.{List, [], ◌∷◌, ◌++◌, map, filter}
 use Rattle.std.proofs.Common.{length, get_or, set, take, drop, refl, sym, ap, subst, ◌∙◌, ⊎_elim, arith}
-use Rattle.std.specs.Prelude.{All, IfOk, IsTrue, OnErr, OnOk, Result, Ok, Err, slice_index, slice_get, option_map, ◌↔◌, ◌⊎◌, ⊤}
+use Rattle.std.specs.Prelude.{All, IfOk, IsTrue, OnErr, OnOk, Result, Ok, Err, slice_index, slice_get, option_map, ◌↔◌}
+use Rattle.std.specs.Prelude.{◌⊎◌, ⊤}
 use Rattle.std.specs.List.{list_any, remove}
 use Rattle.std.specs.List.Sorted.{IsStrictlyIncreasing}
-use Rattle.std.proofs.lemmas.List.{set-get_or, length-map, length-append, length-set, get_or-map, get_or-set_same, get_or-set_other, map-set}
+use Rattle.std.proofs.lemmas.List.{set-get_or, length-map, length-append, length-set, get_or-map, get_or-set_same}
+use Rattle.std.proofs.lemmas.List.{get_or-set_other, map-set}
 use Rattle.std.proofs.lemmas.Bool.{cases_lt, cases_eq}
 use Rattle.std.proofs.Math.ListN.{get_or-append}
 use Rattle.std.proofs.Math.Seq.{get_or-append_seam}
@@ -47,10 +50,12 @@ All-from_map P f xs all k d within =
     subst P (get_or-map f xs k d (f d) within) (all k (f d) (omega (arith, length-map xs f)))
 
 -- one more element with the next number
-pub AreElements-push : (g : Parts) (count : ℕ) (es : List ElementView) (e : ElementView) → AreElements g count es → IsElement g count (length es) e →
+pub AreElements-push : (g : Parts) (count : ℕ) (es : List ElementView) (e : ElementView) → AreElements g count es
+    → IsElement g count (length es) e →
     AreElements g count (es ++ e ∷ [])
 AreElements-push g count es e old new n d within =
-    ⊎_elim (λ lt. rw (get_or-append es (e ∷ []) d n lt) (old n d lt)) (λ le. last (omega (arith, length-append es (e ∷ [])))) (cases_lt n (length es))
+    ⊎_elim (λ lt. rw (get_or-append es (e ∷ []) d n lt) (old n d lt))
+    (λ le. last (omega (arith, length-append es (e ∷ [])))) (cases_lt n (length es))
   where
     last : n ≡ length es → IsElement g count n (get_or (es ++ e ∷ []) n d)
     last is = rw (is, get_or-append_seam es e [] d) new
@@ -60,11 +65,13 @@ any_or_true true = refl
 any_or_true false = refl
 
 -- the block that passes a test alone stands among all
-second_of_main : (p q : Block → Bool) (xs : List Block) (b : Block) → filter p xs ≡ b ∷ [] → q b ≡ true → list_any q xs ≡ true
+second_of_main : (p q : Block → Bool) (xs : List Block) (b : Block) → filter p xs ≡ b ∷ [] → q b ≡ true
+    → list_any q xs ≡ true
 second_of_main p q [] b is here = cc
 second_of_main p q (x ∷ xs) b is here = at (λ e. second_of_main p q xs b e here) (p x) is
   where
-    at : (filter p xs ≡ b ∷ [] → list_any q xs ≡ true) → (c : Bool) → cond c (x ∷ filter p xs) (filter p xs) ≡ b ∷ [] → (q x || list_any q xs) ≡ true
+    at : (filter p xs ≡ b ∷ [] → list_any q xs ≡ true) → (c : Bool) → cond c (x ∷ filter p xs) (filter p xs) ≡ b ∷ []
+        → (q x || list_any q xs) ≡ true
     at rest true e = let same : x ≡ b = cc in let passes : q x ≡ true = ap q same ∙ here in rw passes
     at rest false e = let found = rest e in rw found (any_or_true (q x))
 
@@ -73,7 +80,12 @@ pub start_fits : (g : Parts) (b : Block) (vs : List Constant) → IsMain g b →
     All (Fits g) (block_messages (b ∷ []) vs)
 start_fits g b vs main kept inputs =
     let first : TokenFits g 0 (main_tag b.first) port.Zero value.Signal =
-    record { kind = kind_at_op g b.first port.Zero (Merge kind.Signal) kept.trigger; in_time = omega arith; continuation = tt; address = tt } in
+    record {
+      kind = kind_at_op g b.first port.Zero (Merge kind.Signal) kept.trigger;
+      in_time = omega arith;
+      continuation = tt;
+      address = tt;
+    } in
     let second : TokenFits g 0 (main_tag (b.first + 1)) port.Zero (value.Continuation (main_tag 0)) = record {
       kind = kind_at_op g (b.first + 1) port.Zero (Back kept.kind) kept.back;
       in_time = omega arith;
@@ -82,7 +94,8 @@ start_fits g b vs main kept inputs =
         (
           kept.kind,
           record {
-            second = second_of_main (has_main_place g) (λ x. eqb (x.first + 1) (b.first + 1)) g.blocks b main (eq-eqb (b.first + 1) (b.first + 1) refl);
+            second = second_of_main (has_main_place g) (λ x. eqb (x.first + 1) (b.first + 1)) g.blocks b main
+                (eq-eqb (b.first + 1) (b.first + 1) refl);
             back = kept.back;
             merge = kept.answer;
           },
@@ -94,10 +107,12 @@ start_fits g b vs main kept inputs =
     let trigger : Message = start_message 0 (Token (main_tag b.first) port.Zero value.Signal) in
     let back : Message = start_message 1 (Token (main_tag (b.first + 1)) port.Zero (value.Continuation (main_tag 0))) in
     let brought = input_messages 2 b.entries vs in
-    All-cons (Fits g) trigger (back ∷ brought) first (All-cons (Fits g) back brought second (inputs_fit g 2 b.entries vs inputs))
+    All-cons (Fits g) trigger (back ∷ brought) first
+    (All-cons (Fits g) back brought second (inputs_fit g 2 b.entries vs inputs))
 
 -- the message at a place, given to the element that it is for, which has a stamp left
-pub record IsGiven (g : Parts) (count : ℕ) (es : List ElementView) (flight : List Message) (k n : ℕ) (m : Message) (e : ElementView) : Type 0 where
+pub record IsGiven (g : Parts) (count : ℕ) (es : List ElementView) (flight : List Message) (k n : ℕ) (m : Message)
+    (e : ElementView) : Type 0 where
   pub there : slice_get flight k ≡ Some m
   pub routed : route_of m.payload count ≡ n
   pub element : slice_get es n ≡ Some e
@@ -105,12 +120,13 @@ pub record IsGiven (g : Parts) (count : ℕ) (es : List ElementView) (flight : L
 abbrev pub after_take : Parts → ElementView → Message → ElementView
 after_take g e m = record e { state = state_after g e.number e.state m }
 
-state_at : (es : List ElementView) (n : ℕ) (e : ElementView) → slice_get es n ≡ Some e → slice_get (map (λ x. x.state) es) n ≡ Some e.state
+state_at : (es : List ElementView) (n : ℕ) (e : ElementView) → slice_get es n ≡ Some e
+    → slice_get (map (λ x. x.state) es) n ≡ Some e.state
 state_at es n e is = slice_get-map (λ x. x.state) es n ∙ ap (option_map (λ x. x.state)) is
 
 -- where a stamp is left, the message is taken from the list and handled
-pub delivered-is : (g : Parts) (count : ℕ) (es : List ElementView) (flight : List Message) (k n : ℕ) (m : Message) (e : ElementView)
-    → IsGiven g count es flight k n m e → is_ended e.state m ≡ false
+pub delivered-is : (g : Parts) (count : ℕ) (es : List ElementView) (flight : List Message) (k n : ℕ) (m : Message)
+    (e : ElementView) → IsGiven g count es flight k n m e → is_ended e.state m ≡ false
     → delivered g count (world_of es flight) k ≡ taken_from g k (world_of es flight) m n e.state
 delivered-is g count es flight k n m e given left =
     ap (routed_to g count k (world_of es flight)) given.there
@@ -119,8 +135,8 @@ delivered-is g count es flight k n m e given left =
     ∙ ap (λ b. cond b (world_of es flight) (taken_from g k (world_of es flight) m n e.state)) left
 
 -- and where none is left, there is no event
-pub event_at-is : (g : Parts) (count : ℕ) (es : List ElementView) (flight : List Message) (k n : ℕ) (m : Message) (e : ElementView)
-    → IsGiven g count es flight k n m e
+pub event_at-is : (g : Parts) (count : ℕ) (es : List ElementView) (flight : List Message) (k n : ℕ) (m : Message)
+    (e : ElementView) → IsGiven g count es flight k n m e
     → event_at g count (world_of es flight) k ≡ cond (is_ended e.state m) None (Some (event_of g n e.state m))
 event_at-is g count es flight k n m e given =
     ap (event_of_routed g count (world_of es flight)) given.there
@@ -128,10 +144,12 @@ event_at-is g count es flight k n m e given =
     ∙ ap (event_of_given g n m) (state_at es n e given.element)
 
 -- an element goes on as the same element
-AreElements-set : (g : Parts) (count : ℕ) (es : List ElementView) (n : ℕ) (e : ElementView) → n < length es → AreElements g count es → IsElement g count n e →
+AreElements-set : (g : Parts) (count : ℕ) (es : List ElementView) (n : ℕ) (e : ElementView) → n < length es
+    → AreElements g count es → IsElement g count n e →
     AreElements g count (set es n e)
 AreElements-set g count es n e lt old new k d within =
-    ⊎_elim (λ same. here same) (λ other. rw (get_or-set_other es n k e d other) (old k d (omega (arith, length-set es n e)))) (cases_eq k n)
+    ⊎_elim (λ same. here same)
+    (λ other. rw (get_or-set_other es n k e d other) (old k d (omega (arith, length-set es n e)))) (cases_eq k n)
   where
     here : k ≡ n → IsElement g count k (get_or (set es n e) k d)
     here same =
@@ -139,7 +157,8 @@ AreElements-set g count es n e lt old new k d within =
         subst P (sym same) (subst (IsElement g count n) (sym (get_or-set_same es n e d lt)) new)
 
 -- a delivery that is no error: the message is given to its element, which has a stamp left
-pub record IsDelivery (g : Parts) (count : ℕ) (es : List ElementView) (flight : List Message) (k n : ℕ) (m : Message) (e : ElementView) : Type 0 where
+pub record IsDelivery (g : Parts) (count : ℕ) (es : List ElementView) (flight : List Message) (k n : ℕ) (m : Message)
+    (e : ElementView) : Type 0 where
   pub given : IsGiven g count es flight k n m e
   pub left : is_ended e.state m ≡ false
   pub same : IsElement g count n e
@@ -149,23 +168,36 @@ abbrev pub taken : ElementView → Message → ElementView
 taken e m = record e { state = state_after e.graph e.number e.state m }
 
 -- the machine's world after a delivery
-pub world-delivered : (g : Parts) (count : ℕ) (es : List ElementView) (flight : List Message) (k n : ℕ) (m : Message) (e : ElementView)
-    → IsDelivery g count es flight k n m e
-    → world_of (set es n (taken e m)) (remove flight k ++ outputs_of e.graph e.number e.state m) ≡ delivered g count (world_of es flight) k
+pub world-delivered : (g : Parts) (count : ℕ) (es : List ElementView) (flight : List Message) (k n : ℕ) (m : Message)
+    (e : ElementView) → IsDelivery g count es flight k n m e
+    → world_of (set es n (taken e m)) (remove flight k ++ outputs_of e.graph e.number e.state m)
+    ≡ delivered g count (world_of es flight) k
 world-delivered g count es flight k n m e d =
-    rw (d.same.graph, d.same.number, map-set (λ x. x.state) es n (record { number = n; count = e.count; graph = g; keeps = e.keeps; state = state_after g n e.state m }))
+    rw (
+      d.same.graph,
+      d.same.number,
+      map-set (λ x. x.state) es n (record {
+        number = n;
+        count = e.count;
+        graph = g;
+        keeps = e.keeps;
+        state =
+            state_after g n e.state m;
+      }),
+    )
     (sym (delivered-is g count es flight k n m e d.given d.left))
 
 -- the event of a delivery
-pub event-delivered : (g : Parts) (count : ℕ) (es : List ElementView) (flight : List Message) (k n : ℕ) (m : Message) (e : ElementView)
-    → IsDelivery g count es flight k n m e
+pub event-delivered : (g : Parts) (count : ℕ) (es : List ElementView) (flight : List Message) (k n : ℕ) (m : Message)
+    (e : ElementView) → IsDelivery g count es flight k n m e
     → event_at g count (world_of es flight) k ≡ Some (event_of g n e.state m)
 event-delivered g count es flight k n m e d =
     event_at-is g count es flight k n m e d.given ∙ ap (λ b. cond b None (Some (event_of g n e.state m))) d.left
 
 -- a machine is one after a delivery
-pub IsMachine-deliver : (g : Parts) (keeps : Keeps) (es : List ElementView) (flight : List Message) (k n : ℕ) (m : Message) (e : ElementView)
-    → IsMachine g keeps es flight → IsDelivery g (length es) es flight k n m e → All (Fits e.graph) (outputs_of e.graph e.number e.state m)
+pub IsMachine-deliver : (g : Parts) (keeps : Keeps) (es : List ElementView) (flight : List Message) (k n : ℕ)
+    (m : Message) (e : ElementView) → IsMachine g keeps es flight → IsDelivery g (length es) es flight k n m e
+    → All (Fits e.graph) (outputs_of e.graph e.number e.state m)
     → IsMachine g keeps (set es n (taken e m)) (remove flight k ++ outputs_of e.graph e.number e.state m)
 IsMachine-deliver g keeps es flight k n m e old d fits = record {
   at_least_one = omega (arith, old.at_least_one, length-set es n (taken e m));
@@ -185,13 +217,15 @@ IsMachine-deliver g keeps es flight k n m e old d fits = record {
 }
 
 -- the element at each position has it as its number
-number_at : (g : Parts) (count : ℕ) (es : List ElementView) (k : ℕ) → AreElements g count es → k < length es → slice_index (map (λ e. e.number) es) k ≡ k
+number_at : (g : Parts) (count : ℕ) (es : List ElementView) (k : ℕ) → AreElements g count es → k < length es
+    → slice_index (map (λ e. e.number) es) k ≡ k
 number_at g count es k are lt =
     let none : ElementView = record { number = 0; count = 0; graph = g; keeps = kept.All; state = fresh } in
     get_or-map (λ e. e.number) es k none 0 lt ∙ (are k none lt).number
 
 -- so the numbers of a machine's elements rise
-pub AreElements-rise : (g : Parts) (count : ℕ) (es : List ElementView) → AreElements g count es → IsStrictlyIncreasing (map (λ e. e.number) es)
+pub AreElements-rise : (g : Parts) (count : ℕ) (es : List ElementView) → AreElements g count es
+    → IsStrictlyIncreasing (map (λ e. e.number) es)
 AreElements-rise g count es are k lt =
     let next : k + 1 < length es = omega (arith, lt, length-map es (λ e. e.number)) in
     omega (arith, number_at g count es k are (omega (arith, next)), number_at g count es (k + 1) are next)
@@ -227,16 +261,21 @@ pub record IsTold (k : ℕ) (v later : MachineView) (r : Result Step TakeError) 
   pub end : r ≡ Err StampEnd ↔ event_at v.graph v.count v.world k ≡ None
   pub err : OnErr r (later ≡ v)
 
-module _ {g : Parts} {keeps : Keeps} {es : List ElementView} {flight : List Message} {k n : ℕ} {m : Message} {e : ElementView}
+module _ {g : Parts} {keeps : Keeps} {es : List ElementView} {flight : List Message} {k n : ℕ} {m : Message}
+    {e : ElementView}
     (given : IsGiven g (length es) es flight k n m e) (old : IsMachine g keeps es flight) where
   -- the element that the message is for is that of its number
   element_is : IsElement g (length es) n e
-  element_is = subst (IsElement g (length es) n) (get_or_from_slice_get es n e e given.element) (old.elements n e (slice_get_within es n e given.element))
+  element_is =
+      subst (IsElement g (length es) n) (get_or_from_slice_get es n e e given.element)
+      (old.elements n e (slice_get_within es n e given.element))
 
   -- so the message is for it
   pub is_for : IsFor e.graph e.count e.number m
   is_for =
-      let fits : Fits g m = subst (Fits g) (get_or_from_slice_get flight k m m given.there) (old.flight_fits k m (slice_get_within flight k m given.there)) in
+      let fits : Fits g m =
+      subst (Fits g) (get_or_from_slice_get flight k m m given.there)
+      (old.flight_fits k m (slice_get_within flight k m given.there)) in
       record {
         routed = ap (route_of m.payload) element_is.count_is ∙ given.routed ∙ sym element_is.number;
         fits = subst (λ (x : Parts). Fits x m) (sym element_is.graph) fits;
@@ -249,36 +288,49 @@ module _ {g : Parts} {keeps : Keeps} {es : List ElementView} {flight : List Mess
   kept_list = ap (set es n) (sym (get_or_from_slice_get es n e e given.element)) ∙ set-get_or es n e
 
   -- the machine stays one, whatever the delivery came to
-  pub IsMachine-given : {later : ElementView} {left : List Message} (r : Result Step TakeError) → Handles e later m flight (remove flight k) left r
-      → IsMachine g keeps (set es n later) left
+  pub IsMachine-given : {later : ElementView} {left : List Message} (r : Result Step TakeError)
+      → Handles e later m flight (remove flight k) left r → IsMachine g keeps (set es n later) left
   IsMachine-given (Ok s) x =
-      rw (x.becomes.element, x.becomes.outputs) (IsMachine-deliver g keeps es flight k n m e old (delivery (left_ok s (is_ended e.state m) x.ended)) x.fits)
+      rw (
+        x.becomes.element,
+        x.becomes.outputs,
+      ) (IsMachine-deliver g keeps es flight k n m e old (delivery (left_ok s (is_ended e.state m) x.ended)) x.fits)
   IsMachine-given (Err b) x = rw (x.becomes.element, x.becomes.same, kept_list) old
 
-  module _ {v : MachineView} (is : ◌≡◌ {A = MachineView} (record { graph = g; count = length es; keeps = keeps; world = world_of es flight }) v) where
+  module _ {v : MachineView}
+      (is : ◌≡◌ {A = MachineView} (record { graph = g; count = length es; keeps = keeps; world = world_of es flight })
+      v) where
     -- what the machine shows afterwards
     abbrev pub after : ElementView → List Message → MachineView
-    after later left = record { graph = g; count = length (set es n later); keeps = keeps; world = world_of (set es n later) left }
+    after later left =
+        record { graph = g; count = length (set es n later); keeps = keeps; world = world_of (set es n later) left }
 
     view-kept : (later : ElementView) (left : List Message) → later ≡ e → left ≡ flight → after later left ≡ v
     view-kept later left same still = rw (same, still, kept_list) is
 
     view-delivered : (later : ElementView) (left : List Message) → is_ended e.state m ≡ false → later ≡ taken e m
-        → left ≡ remove flight k ++ outputs_of e.graph e.number e.state m → after later left ≡ record v { world = delivered v.graph v.count v.world k }
+        → left ≡ remove flight k ++ outputs_of e.graph e.number e.state m
+        → after later left ≡ record v { world = delivered v.graph v.count v.world k }
     view-delivered later left stamp took gone =
         let world : world_of (set es n later) left ≡ delivered g (length es) (world_of es flight) k =
         rw (took, gone) (world-delivered g (length es) es flight k n m e (delivery stamp)) in
         subst (λ (x : MachineView). after later left ≡ record x { world = delivered x.graph x.count x.world k }) is
         (λ i. record { graph = g; count = length-set es n later i; keeps = keeps; world = world i })
 
-    event_in_view : (b : Bool) → is_ended e.state m ≡ b → event_at v.graph v.count v.world k ≡ cond b None (Some (event_of g n e.state m))
-    event_in_view b stamp = subst (λ (x : MachineView). event_at x.graph x.count x.world k ≡ cond b None (Some (event_of g n e.state m))) is
-        (event_at-is g (length es) es flight k n m e given ∙ ap (λ c. cond c None (Some (event_of g n e.state m))) stamp)
+    event_in_view : (b : Bool) → is_ended e.state m ≡ b
+        → event_at v.graph v.count v.world k ≡ cond b None (Some (event_of g n e.state m))
+    event_in_view b stamp =
+        subst (λ (x : MachineView). event_at x.graph x.count x.world k ≡ cond b None (Some (event_of g n e.state m))) is
+        (event_at-is g (length es) es flight k n m e given
+        ∙ ap (λ c. cond c None (Some (event_of g n e.state m))) stamp)
 
-    step-delivered : is_ended e.state m ≡ false → option_map (λ x. x.step) (event_at v.graph v.count v.world k) ≡ Some (step_of e.graph e.number e.state m)
+    step-delivered : is_ended e.state m ≡ false
+        → option_map (λ x. x.step) (event_at v.graph v.count v.world k) ≡ Some (step_of e.graph e.number e.state m)
     step-delivered stamp =
         ap (option_map (λ x. x.step)) (event_in_view false stamp)
-        ∙ ap (λ s. Some s) (sym (ap (λ x. step_of x e.number e.state m) element_is.graph ∙ ap (λ j. step_of g j e.state m) element_is.number))
+        ∙ ap (λ s. Some s)
+        (sym (ap (λ x. step_of x e.number e.state m) element_is.graph
+        ∙ ap (λ j. step_of g j e.state m) element_is.number))
 
     -- the end of stamps is told where none is left, and by nothing else
     end-delivered : {A : Type 0} (r : Result A TakeError) → r ≡ Err StampEnd ↔ IsTrue (is_ended e.state m)
@@ -287,11 +339,14 @@ module _ {g : Parts} {keeps : Keeps} {es : List ElementView} {flight : List Mess
       where
         at : (b : Bool) → is_ended e.state m ≡ b → r ≡ Err StampEnd ↔ event_at v.graph v.count v.world k ≡ None
         at true stamp = ((λ h. event_in_view true stamp), (λ h. both.1 stamp))
-        at false stamp = ((λ h. not_so (is_ended e.state m) stamp (both.0 h)), (λ h. absurd (no_event _ _ (event_in_view false stamp) h)))
+        at false stamp = (
+          (λ h. not_so (is_ended e.state m) stamp (both.0 h)),
+          (λ h. absurd (no_event _ _ (event_in_view false stamp) h)),
+        )
 
     -- what the element and the list in flight tell is told of the machine
-    pub told-given : {later : ElementView} {left : List Message} (r : Result Step TakeError) → Handles e later m flight (remove flight k) left r
-        → IsTold k v (after later left) r
+    pub told-given : {later : ElementView} {left : List Message} (r : Result Step TakeError)
+        → Handles e later m flight (remove flight k) left r → IsTold k v (after later left) r
     told-given {later = later} {left = left} (Ok s) x =
         let stamp = left_ok s (is_ended e.state m) x.ended in
         record {
@@ -301,4 +356,10 @@ module _ {g : Parts} {keeps : Keeps} {es : List ElementView} {flight : List Mess
           err = tt;
         }
     told-given {later = later} {left = left} (Err b) x =
-        record { world = tt; step = tt; end = end-delivered (Err b) x.ended; err = view-kept later left x.becomes.element x.becomes.same }
+        record {
+          world = tt;
+          step = tt;
+          end = end-delivered (Err b) x.ended;
+          err =
+              view-kept later left x.becomes.element x.becomes.same;
+        }

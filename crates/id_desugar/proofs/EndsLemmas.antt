@@ -1,5 +1,6 @@
 -- The ends of what begins at rows, as they are noted.
-use Rattle.std.proofs.Common.{◌≡◌, inl, inr, ℕ, zero, suc, ◌+◌, ◌-◌, ◌<◌, ◌≤◌, Bool, true, false, List, [], ◌∷◌, length, get_or, replicate, Option, None}
+use Rattle.std.proofs.Common.{◌≡◌, inl, inr, ℕ, zero, suc, ◌+◌, ◌-◌, ◌<◌, ◌≤◌, Bool, true, false, List, [], ◌∷◌, length}
+use Rattle.std.proofs.Common.{get_or, replicate, Option, None}
 use Rattle.std.proofs.Common.{refl, ap, sym, ◌∙◌, subst, arith, if◌then◌else◌}
 use Rattle.std.specs.Prelude.{Some, nat_eq, unwrap_or}
 use Rattle.std.proofs.lemmas.Bool.{cases_lt, eqb-true, false≢true}
@@ -17,25 +18,30 @@ use Rattle.id_table.specs.Rows.{at, no_row}
 use Rattle.id_table.specs.Tables.{HasPart, is_variable}
 use Rattle.id_desugar.specs.Gathering.{EndsNothing, is_opening}
 use Rattle.id_desugar.specs.Regions.{nexts_from}
-use Rattle.id_desugar.specs.Ends.{AreEnds, AreFirst, AreNexts, IsNoted, begun_at, end_at, end_of, end_row, is_row, next_at, next_of, variable_of}
+use Rattle.id_desugar.specs.Ends.{AreEnds, AreFirst, AreNexts, IsNoted, begun_at, end_at, end_of, end_row, is_row}
+use Rattle.id_desugar.specs.Ends.{next_at, next_of, variable_of}
 
 -- at first nothing is noted
 pub nothing-at : (n h : ℕ) → get_or {A = Option ℕ} (replicate n None) h None ≡ None
 nothing-at n h = elim (cases_lt h n) [
   | inl l ↦ get_or-replicate n h None None l
-  | inr l ↦ get_or_past (replicate n None) h None (let long = length-replicate {A = Option ℕ} n None in omega (arith, long, l))
+  | inr l ↦ get_or_past (replicate n None) h None (let long = length-replicate {A = Option ℕ} n None in
+      omega (arith, long, l))
 ]
 
 pub long-nothing : (n : ℕ) (es : List (Option ℕ)) → es ≡ replicate n None → length es ≡ n
 long-nothing n es is = ap length is ∙ length-replicate n None
 
-pub AreFirst-none : (P : Checked) (f : ℕ → ℕ → Option ℕ) (n : ℕ) (es : List (Option ℕ)) → n ≡ length (rows P) → es ≡ replicate n None → AreFirst P f 0 es
-AreFirst-none P f n es long is = record { many = long-nothing n es is ∙ long; each = λ h l. ap (λ z. get_or z h None) is ∙ nothing-at n h }
+pub AreFirst-none : (P : Checked) (f : ℕ → ℕ → Option ℕ) (n : ℕ) (es : List (Option ℕ)) → n ≡ length (rows P)
+    → es ≡ replicate n None → AreFirst P f 0 es
+AreFirst-none P f n es long is =
+    record { many = long-nothing n es is ∙ long; each = λ h l. ap (λ z. get_or z h None) is ∙ nothing-at n h }
 
 -- one more row is noted
 pub AreFirst-next : (P : Checked) (f : ℕ → ℕ → Option ℕ) (n : ℕ) (b : Option ℕ) (es fs : List (Option ℕ))
     → ((h : ℕ) → f h n ≡ (if is_row h b then Some n else None))
-    → length fs ≡ length es → AreFirst P f n es → ((h : ℕ) → h < length es → IsNoted n b h (get_or es h None) (get_or fs h None)) → AreFirst P f (n + 1) fs
+    → length fs ≡ length es → AreFirst P f n es
+    → ((h : ℕ) → h < length es → IsNoted n b h (get_or es h None) (get_or fs h None)) → AreFirst P f (n + 1) fs
 AreFirst-next P f n b es fs is long so each = record {
   many = long ∙ so.many;
   each = λ h l. (
@@ -47,7 +53,8 @@ AreFirst-next P f n b es fs is long so each = record {
 }
 
 -- what ends at a row begins where its node says
-pub end_begins : (P : Checked) (h e : ℕ) → end_row P h ≡ Some e → (e < length (rows P)) × (begun_at (at (rows P) e).node ≡ Some h)
+pub end_begins : (P : Checked) (h e : ℕ) → end_row P h ≡ Some e
+    → (e < length (rows P)) × (begun_at (at (rows P) e).node ≡ Some h)
 end_begins P h e is =
     let w = first_of-some (end_at P h) (length (rows P)) e is in
     let v = begun h w.0 e (begun_at (at (rows P) w.0).node) w.2 in
@@ -104,7 +111,8 @@ ends_no_opening P e h b never s is =
     one : (s h : ℕ) → Some s ≡ Some h → s ≡ h
     one s h e = cc
 
-    by : (t : Bool) → is_opening (at (rows P) s).node ≡ t → (is_opening (at (rows P) s).node ≡ true → ⊥) → is_opening (at (rows P) s).node ≡ false
+    by : (t : Bool) → is_opening (at (rows P) s).node ≡ t → (is_opening (at (rows P) s).node ≡ true → ⊥)
+        → is_opening (at (rows P) s).node ≡ false
     by true e f = absurd (f e)
     by false e f = e
 
@@ -136,8 +144,15 @@ pub variable_within : (P : Checked) (n x k o v : ℕ) → (at (rows P) n).node �
 variable_within P n x k o v e = elim (cases_lt ((at (rows P) n).block + 1 + k) (length (rows P))) [
   | inl m ↦ m
   | inr m ↦
-      let w = (table_of P).next_in n (at (rows P) n).block k x (record { outer = o; value = v; within = l; block = refl; node = e }) in
-      let past : Head ≡ Variable = sym (ap (λ (r : Row). r.node) (get_or_past (rows P) ((at (rows P) n).block + 1 + k) no_row m)) ∙ w.2.variable in
+      let w = (table_of P).next_in n (at (rows P) n).block k x (record {
+        outer = o;
+        value = v;
+        within = l;
+        block = refl;
+        node = e;
+      }) in
+      let past : Head ≡ Variable =
+      sym (ap (λ (r : Row). r.node) (get_or_past (rows P) ((at (rows P) n).block + 1 + k) no_row m)) ∙ w.2.variable in
       absurd (false≢true (ap is_variable past))
 ]
   where
@@ -166,17 +181,20 @@ begun_inside P h l = by (end_row P h) refl l
   where
     by : (o : Option ℕ) → end_row P h ≡ o → 0 < unwrap_or o 0 → h < length (rows P)
     by None is k = absurd (omega (arith, k))
-    by (Some e) is k = let low = end_behind P h e is in let within = (end_begins P h e is).0 in omega (arith, low, within)
+    by (Some e) is k =
+        let low = end_behind P h e is in let within = (end_begins P h e is).0 in omega (arith, low, within)
 
 -- where what begins at any number ends
-pub end_of-kept : (P : Checked) (es : List (Option ℕ)) (h : ℕ) → AreEnds P es → unwrap_or (get_or es h None) 0 ≡ end_of P h
+pub end_of-kept : (P : Checked) (es : List (Option ℕ)) (h : ℕ) → AreEnds P es
+    → unwrap_or (get_or es h None) 0 ≡ end_of P h
 end_of-kept P es h so = ap (λ o. unwrap_or o 0) (first_kept P (end_at P) es h so inside)
   where
     inside : (e : ℕ) → end_row P h ≡ Some e → h < length (rows P)
     inside e is = let low = end_behind P h e is in let within = (end_begins P h e is).0 in omega (arith, low, within)
 
 -- the `next` of the variable at any number
-pub next_of-kept : (P : Checked) (ns : List (Option ℕ)) (v : ℕ) → AreNexts P ns → unwrap_or (get_or ns v None) 0 ≡ next_of P v
+pub next_of-kept : (P : Checked) (ns : List (Option ℕ)) (v : ℕ) → AreNexts P ns
+    → unwrap_or (get_or ns v None) 0 ≡ next_of P v
 next_of-kept P ns v so = ap (λ o. unwrap_or o 0) (first_kept P (next_at P) ns v so inside)
   where
     none_some : (a : ℕ) → None ≡ Some a → ⊥
@@ -189,7 +207,8 @@ next_of-kept P ns v so = ap (λ o. unwrap_or o 0) (first_kept P (next_at P) ns v
     by : (i g : ℕ) (m : Node) → (at (rows P) i).node ≡ m
         → (if is_row v (variable_of (at (rows P) i).block m) then Some i else None) ≡ Some g → v < length (rows P)
     by i g (Next x k o u) e f =
-        let is : (at (rows P) i).block + 1 + k ≡ v = eqb-true ((at (rows P) i).block + 1 + k) v (test i g (nat_eq ((at (rows P) i).block + 1 + k) v) f) in
+        let is : (at (rows P) i).block + 1 + k ≡ v =
+        eqb-true ((at (rows P) i).block + 1 + k) v (test i g (nat_eq ((at (rows P) i).block + 1 + k) v) f) in
         subst (λ z. z < length (rows P)) is (variable_within P i x k o u e)
     by i g _ e f = absurd (none_some g f)
 
@@ -199,7 +218,8 @@ next_of-kept P ns v so = ap (λ o. unwrap_or o 0) (first_kept P (next_at P) ns v
 -- ---- the `next`s of a loop
 
 -- one more variable stands behind the head
-pub nexts-next : (P : Checked) (v n : ℕ) → 0 < n → is_variable (at (rows P) v).node ≡ true → nexts_from P v n ≡ next_of P v ∷ nexts_from P (v + 1) (n - 1)
+pub nexts-next : (P : Checked) (v n : ℕ) → 0 < n → is_variable (at (rows P) v).node ≡ true
+    → nexts_from P v n ≡ next_of P v ∷ nexts_from P (v + 1) (n - 1)
 nexts-next P v zero l e = absurd (omega (arith, l))
 nexts-next P v (suc n) l e =
     let next : suc v ≡ v + 1 = omega arith in

@@ -1,11 +1,13 @@
 -- Which first values are a loop's own: none that stands in a construct within the loop.
-use Rattle.std.proofs.Common.{◌≡◌, ◌≢◌, inl, inr, ℕ, ◌+◌, ◌-◌, ◌<◌, ◌≤◌, Bool, true, false, List, Some, None, refl, ap, sym, ◌∙◌, arith, length}
+use Rattle.std.proofs.Common.{◌≡◌, ◌≢◌, inl, inr, ℕ, ◌+◌, ◌-◌, ◌<◌, ◌≤◌, Bool, true, false, List, Some, None, refl, ap}
+use Rattle.std.proofs.Common.{sym, ◌∙◌, arith, length}
 use Rattle.std.specs.Prelude.{◌&&◌, ◌||◌, nat_eq}
 use Rattle.std.proofs.lemmas.Bool.{cases_lt, eqb-true, false≢true}
 use Rattle.id_table.specs.declared.row.Region.{Region}
 use Rattle.id_table.specs.declared.row.Row.{Row}
 use Rattle.id_table.specs.declared.row.Node.{Node}
-use Rattle.id_table.specs.declared.row.Node.TheVariants.{Head, Name, Split, If, Enter, Call, Def, LoopHead, Switches, NextUse, Loop}
+use Rattle.id_table.specs.declared.row.Node.TheVariants.{Head, Name, Split, If, Enter, Call, Def, LoopHead, Switches}
+use Rattle.id_table.specs.declared.row.Node.TheVariants.{NextUse, Loop}
 use Rattle.id_table.specs.Rows.{arm_at, at, top}
 use Rattle.id_table.specs.Tables.{begins_block, is_split, is_switches, is_top}
 use Rattle.id_table.specs.Loops.{InSide, IsLoop, IsLoopOf, IsTurn, right, behind_count}
@@ -63,7 +65,8 @@ module _ (R : List Row) (t : IsTable R) where
   ]
 
   -- they stand in a block, right in its region
-  block_begins : (w : ℕ) → w < length R → is_switches (at R w).node ≡ true → begins_block (at R (at R w).block).node ≡ true
+  block_begins : (w : ℕ) → w < length R → is_switches (at R w).node ≡ true
+      → begins_block (at R (at R w).block).node ≡ true
   block_begins w l e = (t.block w (inner_switches w l e)).1
 
   -- the loop of a head
@@ -78,14 +81,17 @@ module _ (R : List Row) (t : IsTable R) where
   -- a row stands behind the head of its region
   head_low : (i : ℕ) → i + 1 < length R → (at R i).region.head ≤ i
   head_low i l = elim (t.region i l) [
-    | inl e ↦ let is : (at R i).region.head ≡ (at R i).block = ap (λ (r : Region). r.head) e in omega (arith, is, (t.block i l).0)
+    | inl e ↦ let is : (at R i).region.head ≡ (at R i).block =
+        ap (λ (r : Region). r.head) e in omega (arith, is, (t.block i l).0)
     | inr (inl a) ↦
         let is : (at R i).region.head ≡ a.split = ap (λ (r : Region). r.head) a.region in
         let low = (InArm-within R t a.row a.split i a.side a.conditional a.among).0 in
         omega (arith, is, low)
     | inr (inr a) ↦
         let is : (at R i).region.head ≡ a.loop.switches = ap (λ (r : Region). r.head) a.region in
-        let low = side a.loop.switches a.body a.row i a.side (omega (arith, turn_behind a.body_is.turns, a.body_is.low)) a.among in
+        let low =
+        side a.loop.switches a.body a.row i a.side (omega (arith, turn_behind a.body_is.turns, a.body_is.low))
+        a.among in
         omega (arith, is, low)
   ]
     where
@@ -123,7 +129,8 @@ module _ (R : List Row) (t : IsTable R) where
     not_in_top (in_arm {s} {b} within split lies) e =
         absurd (false≢true (sym (split_apart (at R s).node split).1 ∙ ap (λ z. begins_block (at R z).node) e ∙ begins))
     not_in_top (in_side {w = v} within switches lies) e =
-        absurd (false≢true (sym (switches_apart (at R v).node switches) ∙ ap (λ z. begins_block (at R z).node) e ∙ begins))
+        absurd (false≢true (sym (switches_apart (at R v).node switches) ∙ ap (λ z. begins_block (at R z).node) e
+        ∙ begins))
     not_in_top (in_loop {h} {s} within node lies) e =
         let start = start_low h s within node in
         let low = lies_low lies s (omega (arith, start, within)) refl in
@@ -133,11 +140,13 @@ module _ (R : List Row) (t : IsTable R) where
     not_in : q.head ≢ w → {r : Region} → Lies R q r → r.head ≡ w → ⊥
     not_in apart here e = apart e
     not_in apart (in_arm {s} {b} within split lies) e =
-        absurd (false≢true (sym (split_apart (at R s).node split).0 ∙ ap (λ z. is_switches (at R z).node) e ∙ own.switches))
+        absurd (false≢true (sym (split_apart (at R s).node split).0 ∙ ap (λ z. is_switches (at R z).node) e
+        ∙ own.switches))
     not_in apart (in_loop {h} {s} within node lies) e =
         absurd (false≢true (sym (ap is_switches node) ∙ ap (λ z. is_switches (at R z).node) e ∙ own.switches))
     not_in apart (in_side {w = v} within switches lies) e =
-        not_in_top lies (ap (λ (r : Region). r.head) (t.at_top v within (switches_top (at R v).node switches)) ∙ ap (λ z. (at R z).block) e ∙ own.block)
+        not_in_top lies (ap (λ (r : Region). r.head) (t.at_top v within (switches_top (at R v).node switches))
+        ∙ ap (λ z. (at R z).block) e ∙ own.block)
 
   -- what ends at a row is what begins at its head
   ends_if : (s e : ℕ) → e < length R → begun_at (at R e).node ≡ Some s → is_split (at R s).node ≡ true → IsIfOf R e s
@@ -147,8 +156,11 @@ module _ (R : List Row) (t : IsTable R) where
       no n g is = absurd (false≢true (sym g ∙ sym (ap is_split is) ∙ f))
 
       by : (n : Node) → (at R e).node ≡ n → begun_at n ≡ Some s → IsIfOf R e s
-      by (If h x y) is g = let same : h ≡ s = cc in record { then = x; otherwise = y; within = l; node = is ∙ ap (λ z. If z x y) same }
-      by (Def x h k c) is g = let same : h ≡ s = cc in absurd (no Head refl (ap (λ z. (at R z).node) (sym same) ∙ (t.head_is e x h c k l is).0))
+      by (If h x y) is g =
+          let same : h ≡ s = cc in record { then = x; otherwise = y; within = l; node = is ∙ ap (λ z. If z x y) same }
+      by (Def x h k c) is g =
+          let same : h ≡ s =
+          cc in absurd (no Head refl (ap (λ z. (at R z).node) (sym same) ∙ (t.head_is e x h c k l is).0))
       by (Call h c) is g =
           let same : h ≡ s = cc in
           let w = t.enter_of e h (record { count = c; within = l; node = is }) in
@@ -162,15 +174,19 @@ module _ (R : List Row) (t : IsTable R) where
           none : None ≡ Some s → ⊥
           none j = cc
 
-  ends_loop : (s e : ℕ) → e < length R → begun_at (at R e).node ≡ Some s → is_loop_head (at R s).node ≡ true → IsLoopOf R e s
+  ends_loop : (s e : ℕ) → e < length R → begun_at (at R e).node ≡ Some s → is_loop_head (at R s).node ≡ true
+      → IsLoopOf R e s
   ends_loop s e l b f = by (at R e).node refl b
     where
       no : (n : Node) → is_loop_head n ≡ false → (at R s).node ≡ n → ⊥
       no n g is = absurd (false≢true (sym g ∙ sym (ap is_loop_head is) ∙ f))
 
       by : (n : Node) → (at R e).node ≡ n → begun_at n ≡ Some s → IsLoopOf R e s
-      by (Loop h w m) is g = let same : h ≡ s = cc in record { switches = w; last = m; within = l; node = is ∙ ap (λ z. Loop z w m) same }
-      by (Def x h k c) is g = let same : h ≡ s = cc in absurd (no Head refl (ap (λ z. (at R z).node) (sym same) ∙ (t.head_is e x h c k l is).0))
+      by (Loop h w m) is g =
+          let same : h ≡ s = cc in record { switches = w; last = m; within = l; node = is ∙ ap (λ z. Loop z w m) same }
+      by (Def x h k c) is g =
+          let same : h ≡ s =
+          cc in absurd (no Head refl (ap (λ z. (at R z).node) (sym same) ∙ (t.head_is e x h c k l is).0))
       by (Call h c) is g =
           let same : h ≡ s = cc in
           let w = t.enter_of e h (record { count = c; within = l; node = is }) in
@@ -194,7 +210,8 @@ module _ (R : List Row) (t : IsTable R) where
       ((t.arms e s c).each a.0 i a.1) own.head
 
   -- nor within a loop in it, where only the `Span` stands outside
-  not_in_loop : (g s e i w : ℕ) → IsLoopOf R e s → g < s → s < i → i < e → IsRightIn R g i w → is_next_use (at R i).node ≡ false
+  not_in_loop : (g s e i w : ℕ) → IsLoopOf R e s → g < s → s < i → i < e → IsRightIn R g i w
+      → is_next_use (at R i).node ≡ false
   not_in_loop g s e i w c behind low high own = elim (cases_lt (i + 1) e) [
     | inl l ↦ elim (cases_lt d.body i) [
       | inl m ↦ absurd (not_in g i w own (arm_at c.switches false) after apart (d.last_is.each i m l) own.head)
@@ -218,7 +235,8 @@ module _ (R : List Row) (t : IsTable R) where
       apart z = omega (arith, sym own.block ∙ ap (λ y. (at R y).block) (sym z) ∙ d.test.block, behind)
 
       head_apart : s ≢ w
-      head_apart z = false≢true (sym (ap is_switches d.before_test.head) ∙ ap (λ y. is_switches (at R y).node) z ∙ own.switches)
+      head_apart z =
+          false≢true (sym (ap is_switches d.before_test.head) ∙ ap (λ y. is_switches (at R y).node) z ∙ own.switches)
 
 -- the switches of a loop stand behind its head, in its block
 pub switches_head : (P : Checked) (w : ℕ) → is_switches (at (rows P) w).node ≡ true
@@ -243,14 +261,17 @@ right_in P g i e =
       head = refl;
       within = row_inside (rows P) w is_switches refl switches;
       switches = switches;
-      block = eqb-true (at (rows P) w).block g (and_second (is_switches (at (rows P) w).node) (nat_eq (at (rows P) w).block g) e);
+      block = eqb-true (at (rows P) w).block g
+          (and_second (is_switches (at (rows P) w).node) (nat_eq (at (rows P) w).block g) e);
     }
 
 -- a use counts where the row stands right in no side, or is no first value
-counts : (P : Checked) (g i : ℕ) → (is_right_in P g i ≡ true → is_next_use (at (rows P) i).node ≡ false) → used P g i ≡ used_in P None i
+counts : (P : Checked) (g i : ℕ) → (is_right_in P g i ≡ true → is_next_use (at (rows P) i).node ≡ false)
+    → used P g i ≡ used_in P None i
 counts P g i never = by (is_right_in P g i) refl (at (rows P) i).node refl
   where
-    by : (z : Bool) → is_right_in P g i ≡ z → (n : Node) → (at (rows P) i).node ≡ n → used_by z (binder P i) n ≡ used_by false (binder P i) n
+    by : (z : Bool) → is_right_in P g i ≡ z → (n : Node) → (at (rows P) i).node ≡ n
+        → used_by z (binder P i) n ≡ used_by false (binder P i) n
     by false e n is = refl
     by true e (NextUse x) is = absurd (false≢true (sym (never e) ∙ ap is_next_use is))
     by true e (Name x) is = refl
@@ -261,7 +282,8 @@ pub split_counts : (P : Checked) (s t i : ℕ) → (at (rows P) s).node ≡ Spli
 split_counts P s t i is = counts P s i (λ e.
     let own = right_in P s i e in
     let begins = block_begins (rows P) (table_of P) (at (rows P) i).region.head own.within own.switches in
-    absurd (false≢true (sym (ap begins_block is) ∙ ap (λ z. begins_block (at (rows P) z).node) (sym own.block) ∙ begins)))
+    absurd (false≢true (sym (ap begins_block is) ∙ ap (λ z. begins_block (at (rows P) z).node) (sym own.block)
+    ∙ begins)))
 
 -- and for a loop each in the constructs in it
 pub loop_counts : (P : Checked) (g hi : ℕ) → AllCount P (Some g) (g + 1) hi
@@ -272,14 +294,16 @@ loop_counts P g hi = record { each = λ s e i n low high. counts P g i (λ f. by
     by s e i n low high own =
         opens (is_split (at (rows P) s).node) refl (is_loop_head (at (rows P) s).node) refl n.opening
       where
-        opens : (a : Bool) → is_split (at (rows P) s).node ≡ a → (b : Bool) → is_loop_head (at (rows P) s).node ≡ b → (a || b) ≡ true
-            → is_next_use (at (rows P) i).node ≡ false
+        opens : (a : Bool) → is_split (at (rows P) s).node ≡ a → (b : Bool) → is_loop_head (at (rows P) s).node ≡ b
+            → (a || b) ≡ true → is_next_use (at (rows P) i).node ≡ false
         opens true f b h o =
             let w = end_begins P s e n.ends in
-            absurd (not_in_if (rows P) (table_of P) g s e i (at (rows P) i).region.head (ends_if (rows P) (table_of P) s e w.0 w.1 f)
+            absurd (not_in_if (rows P) (table_of P) g s e i (at (rows P) i).region.head
+            (ends_if (rows P) (table_of P) s e w.0 w.1 f)
             (omega (arith, n.low)) low high own)
         opens false f true h o =
             let w = end_begins P s e n.ends in
-            not_in_loop (rows P) (table_of P) g s e i (at (rows P) i).region.head (ends_loop (rows P) (table_of P) s e w.0 w.1 h)
+            not_in_loop (rows P) (table_of P) g s e i (at (rows P) i).region.head
+            (ends_loop (rows P) (table_of P) s e w.0 w.1 h)
             (omega (arith, n.low)) low high own
         opens false f false h o = absurd (false≢true o)

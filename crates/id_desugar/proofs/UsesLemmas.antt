@@ -1,5 +1,6 @@
 -- The binders that names mean, gathered one after another, or an inner span at a time.
-use Rattle.std.proofs.Common.{◌≡◌, ℕ, zero, suc, ◌+◌, ◌≤◌, ◌<◌, Bool, true, false, List, [], ◌∷◌, ◌++◌, Option, Some, None, refl, ap, sym, ◌∙◌, subst, arith}
+use Rattle.std.proofs.Common.{◌≡◌, ℕ, zero, suc, ◌+◌, ◌≤◌, ◌<◌, Bool, true, false, List, [], ◌∷◌, ◌++◌, Option, Some}
+use Rattle.std.proofs.Common.{None, refl, ap, sym, ◌∙◌, subst, arith}
 use Rattle.std.specs.Prelude.{◌==◌, ◌-◌, if◌then◌else◌}
 use Rattle.std.proofs.lemmas.Bool.{false≢true}
 use Rattle.std.proofs.lemmas.Bool.Decides.{nat_tests}
@@ -28,7 +29,8 @@ has_last (x ∷ xs) b = keep (x == b) true (has (xs ++ b ∷ []) b) (λ _. has_l
 pub noted : (lo hi : ℕ) (bs : List ℕ) (b : ℕ) → is_outside lo hi b ≡ true → has (with_use lo hi bs (Some b)) b ≡ true
 noted lo hi bs b out = at (is_outside lo hi b) out (has bs b) refl
   where
-    at : (o : Bool) → o ≡ true → (h : Bool) → has bs b ≡ h → has (if o then (if h then bs else bs ++ b ∷ []) else bs) b ≡ true
+    at : (o : Bool) → o ≡ true → (h : Bool) → has bs b ≡ h
+        → has (if o then (if h then bs else bs ++ b ∷ []) else bs) b ≡ true
     at true e true f = f
     at true e false f = has_last bs b
     at false e h f = cc
@@ -47,26 +49,31 @@ stay lo hi bs [] b h = h
 stay lo hi bs (c ∷ cs) b h = stay lo hi (with_use lo hi bs (Some c)) cs b (stays lo hi bs (Some c) b h)
 
 -- a binder that the one list has needs not be noted again once the list was noted
-all_noted : (lo hi : ℕ) (bs cs : List ℕ) (b : ℕ) → has cs b ≡ true → is_outside lo hi b ≡ true → has (with_uses lo hi bs cs) b ≡ true
+all_noted : (lo hi : ℕ) (bs cs : List ℕ) (b : ℕ) → has cs b ≡ true → is_outside lo hi b ≡ true
+    → has (with_uses lo hi bs cs) b ≡ true
 all_noted lo hi bs [] b h out = cc
-all_noted lo hi bs (c ∷ cs) b h out = either (c == b) refl h (λ g. all_noted lo hi (with_use lo hi bs (Some c)) cs b g out)
+all_noted lo hi bs (c ∷ cs) b h out =
+    either (c == b) refl h (λ g. all_noted lo hi (with_use lo hi bs (Some c)) cs b g out)
   where
     either : (t : Bool) → (c == b) ≡ t → (if t then true else has cs b) ≡ true
         → (has cs b ≡ true → has (with_uses lo hi (with_use lo hi bs (Some c)) cs) b ≡ true)
         → has (with_uses lo hi (with_use lo hi bs (Some c)) cs) b ≡ true
     either true e g f =
         let same : c ≡ b = grind (arith, nat_tests) in
-        stay lo hi (with_use lo hi bs (Some c)) cs b (subst (λ z. has (with_use lo hi bs (Some z)) b ≡ true) (sym same) (noted lo hi bs b out))
+        stay lo hi (with_use lo hi bs (Some c)) cs b
+        (subst (λ z. has (with_use lo hi bs (Some z)) b ≡ true) (sym same) (noted lo hi bs b out))
     either false e g f = f g
 
-absorbed : (lo hi : ℕ) (bs : List ℕ) (b : ℕ) → (is_outside lo hi b ≡ true → has bs b ≡ true) → with_use lo hi bs (Some b) ≡ bs
+absorbed : (lo hi : ℕ) (bs : List ℕ) (b : ℕ) → (is_outside lo hi b ≡ true → has bs b ≡ true)
+    → with_use lo hi bs (Some b) ≡ bs
 absorbed lo hi bs b f = at (is_outside lo hi b) f
   where
     at : (o : Bool) → (o ≡ true → has bs b ≡ true) → (if o then (if has bs b then bs else bs ++ b ∷ []) else bs) ≡ bs
     at true g = ap (λ z. if z then bs else bs ++ b ∷ []) (g refl)
     at false g = refl
 
-with_uses-behind : (lo hi : ℕ) (bs cs : List ℕ) (b : ℕ) → with_uses lo hi bs (cs ++ b ∷ []) ≡ with_use lo hi (with_uses lo hi bs cs) (Some b)
+with_uses-behind : (lo hi : ℕ) (bs cs : List ℕ) (b : ℕ)
+    → with_uses lo hi bs (cs ++ b ∷ []) ≡ with_use lo hi (with_uses lo hi bs cs) (Some b)
 with_uses-behind lo hi bs [] b = refl
 with_uses-behind lo hi bs (c ∷ cs) b = with_uses-behind lo hi (with_use lo hi bs (Some c)) cs b
 
@@ -80,7 +87,8 @@ one_more lo hi a e bs cs None l h = refl
 one_more lo hi a e bs cs (Some b) l h = at (is_outside a e b) refl (has cs b) refl
   where
     at : (o : Bool) → is_outside a e b ≡ o → (g : Bool) → has cs b ≡ g
-        → with_uses lo hi bs (if o then (if g then cs else cs ++ b ∷ []) else cs) ≡ with_use lo hi (with_uses lo hi bs cs) (Some b)
+        → with_uses lo hi bs (if o then (if g then cs else cs ++ b ∷ []) else cs)
+        ≡ with_use lo hi (with_uses lo hi bs cs) (Some b)
     at true i true f = sym (absorbed lo hi (with_uses lo hi bs cs) b (all_noted lo hi bs cs b f))
     at true i false f = with_uses-behind lo hi bs cs b
     at false i g f =
@@ -99,7 +107,8 @@ inner_span f lo hi a e (suc k) l h =
     ∙ sym (one_more lo hi a e (imports_by f lo hi (a - lo)) (imports_by f a e k) (f (a + k)) l h)
 
 -- what is used alike is imported alike
-pub imports-same : (f g : ℕ → Option ℕ) (lo hi k : ℕ) → ((i : ℕ) → lo ≤ i → i < lo + k → f i ≡ g i) → imports_by f lo hi k ≡ imports_by g lo hi k
+pub imports-same : (f g : ℕ → Option ℕ) (lo hi k : ℕ) → ((i : ℕ) → lo ≤ i → i < lo + k → f i ≡ g i)
+    → imports_by f lo hi k ≡ imports_by g lo hi k
 imports-same f g lo hi zero h = refl
 imports-same f g lo hi (suc k) h =
     ap (λ z. with_use lo hi z (f (lo + k))) (imports-same f g lo hi k (λ i l m. h i l (omega arith)))

@@ -1,5 +1,8 @@
 -- The calling thread goes on with what is left (specs/Runs.antt).
-use Rattle.std.proofs.Common.{◌≡◌, ◌≢◌, ℕ, zero, suc, ◌+◌, ◌-◌, ◌^◌, ◌==◌, ◌<◌, ◌≤◌, ◌⊎◌, Bool, true, false, cond, ◌||◌, inl, inr, List, [], ◌∷◌, ◌++◌, All, length, take, drop, Some, None, IsTrue, IsFalse, refl, sym, ap, subst, ◌∙◌, arith, length-append, length-set, append_assoc, get_or, get_or-set_same, get_or-set_other}
+use Rattle.std.proofs.Common.{◌≡◌, ◌≢◌, ℕ, zero, suc, ◌+◌, ◌-◌, ◌^◌, ◌==◌, ◌<◌, ◌≤◌, ◌⊎◌, Bool, true, false, cond, ◌||◌}
+use Rattle.std.proofs.Common.{inl, inr, List, [], ◌∷◌, ◌++◌, All, length, take, drop, Some, None, IsTrue, IsFalse, refl}
+use Rattle.std.proofs.Common.{sym, ap, subst, ◌∙◌, arith, length-append, length-set, append_assoc, get_or}
+use Rattle.std.proofs.Common.{get_or-set_same, get_or-set_other}
 use Rattle.std.specs.Prelude.{slice_get, slice_set, option_map}
 use Rattle.std.specs.List.{remove, sum_by}
 use Rattle.std.proofs.lemmas.Bool.{cases_eq}
@@ -14,7 +17,8 @@ use Rattle.id_record.specs.declared.step.Step.{Step}
 use Rattle.id_record.specs.declared.step.Step.TheVariants.{Went}
 use Rattle.id_core.specs.Events.{EventView, AllWent}
 use Rattle.id_core.specs.Steps.{State, event_of, is_ended, outputs_of, state_after}
-use Rattle.id_core.specs.Machines.{World, MachineView, delivered, event_at, event_of_given, event_of_routed, given_to, routed_to, taken_from, world_of}
+use Rattle.id_core.specs.Machines.{World, MachineView, delivered, event_at, event_of_given, event_of_routed, given_to}
+use Rattle.id_core.specs.Machines.{routed_to, taken_from, world_of}
 use Rattle.id_step.specs.Replays.{ElementView}
 use Rattle.id_value.proofs.PlacesLemmas.{set-here, set-elsewhere, slice_get-image}
 use Rattle.id_runs.specs.Accounts.{IsAccounted}
@@ -35,11 +39,13 @@ pub event-free : (g : Parts) (count steps : ℕ) (w : World) (k : ℕ) → (f : 
     → event_at g count w k ≡ Some (event_of g (route_of f.message.payload count) f.state f.message)
 event-free g count steps w k f =
     let n = route_of f.message.payload count in
-    ap (event_of_routed g count w) f.at ∙ ap (event_of_given g n f.message) f.element ∙ ap (λ b. cond b None (Some (event_of g n f.state f.message))) f.stamp
+    ap (event_of_routed g count w) f.at ∙ ap (event_of_given g n f.message) f.element
+    ∙ ap (λ b. cond b None (Some (event_of g n f.state f.message))) f.stamp
 
 -- and what is said of it is its step
 pub step-free : (g : Parts) (count steps : ℕ) (w : World) (k : ℕ) → (f : IsFree count steps w k) (x : Step)
-    → option_map (λ (v : EventView). v.step) (event_at g count w k) ≡ Some x → (event_of g (route_of f.message.payload count) f.state f.message).step ≡ x
+    → option_map (λ (v : EventView). v.step) (event_at g count w k) ≡ Some x
+    → (event_of g (route_of f.message.payload count) f.state f.message).step ≡ x
 step-free g count steps w k f x is =
     some_same (event_of g (route_of f.message.payload count) f.state f.message).step x
     (sym (ap (option_map (λ (v : EventView). v.step)) (event-free g count steps w k f)) ∙ is)
@@ -48,7 +54,8 @@ pub delivered-free : (g : Parts) (count steps : ℕ) (w : World) (k : ℕ) → (
     → delivered g count w k ≡ taken_from g k w f.message (route_of f.message.payload count) f.state
 delivered-free g count steps w k f =
     let n = route_of f.message.payload count in
-    ap (routed_to g count k w) f.at ∙ ap (given_to g k w f.message n) f.element ∙ ap (λ b. cond b w (taken_from g k w f.message n f.state)) f.stamp
+    ap (routed_to g count k w) f.at ∙ ap (given_to g k w f.message n) f.element
+    ∙ ap (λ b. cond b w (taken_from g k w f.message n f.state)) f.stamp
 
 -- it is there
 pub IsFree-within : (count steps : ℕ) (w : World) (k : ℕ) → IsFree count steps w k → k < length w.flight
@@ -56,13 +63,15 @@ IsFree-within count steps w k f = slice_get_within w.flight k f.message f.at
 
 -- ---- what is left in place
 
-before_taken : {A : Type 0} (xs zs : List A) (k j : ℕ) → j < k → k < length xs → slice_get (take k xs ++ zs) j ≡ slice_get xs j
+before_taken : {A : Type 0} (xs zs : List A) (k j : ℕ) → j < k → k < length xs
+    → slice_get (take k xs ++ zs) j ≡ slice_get xs j
 before_taken [] zs k j lt within = absurd (omega (arith, within))
 before_taken (x ∷ xs) zs zero j lt within = absurd (omega (arith, lt))
 before_taken (x ∷ xs) zs (suc k) zero lt within = refl
 before_taken (x ∷ xs) zs (suc k) (suc j) lt within = before_taken xs zs k j (omega (arith, lt)) (omega (arith, within))
 
-pub before_removed : {A : Type 0} (xs ys : List A) (k j : ℕ) → j < k → k < length xs → slice_get (remove xs k ++ ys) j ≡ slice_get xs j
+pub before_removed : {A : Type 0} (xs ys : List A) (k j : ℕ) → j < k → k < length xs
+    → slice_get (remove xs k ++ ys) j ≡ slice_get xs j
 before_removed xs ys k j lt within = ap (λ zs. slice_get zs j) (append_assoc (take k xs) (drop (suc k) xs) ys) ∙
     before_taken xs (drop (suc k) xs ++ ys) k j lt within
 
@@ -93,7 +102,8 @@ module _ (g : Parts) (count steps : ℕ) (w : World) (k : ℕ) (f : IsFree count
   to = taken_from g k w f.message number f.state
 
   -- a message for the element that took one
-  held_same : (m : Message) (h : IsHeldBack count steps w m) → route_of m.payload count ≡ number → IsHeldBack count steps to m
+  held_same : (m : Message) (h : IsHeldBack count steps w m) → route_of m.payload count ≡ number
+      → IsHeldBack count steps to m
   held_same m h is =
       let here : Some h.state ≡ Some f.state = sym h.element ∙ ap (slice_get w.elements) is ∙ f.element in
       let same : h.state ≡ f.state = some_same h.state f.state here in
@@ -103,15 +113,18 @@ module _ (g : Parts) (count steps : ℕ) (w : World) (k : ℕ) (f : IsFree count
         held = at h.held same;
       }
     where
-      at : (length h.state.events ≡ steps) ⊎ IsTrue (is_ended h.state m) → h.state ≡ f.state → (length next.events ≡ steps) ⊎ IsTrue (is_ended next m)
+      at : (length h.state.events ≡ steps) ⊎ IsTrue (is_ended h.state m) → h.state ≡ f.state
+          → (length next.events ≡ steps) ⊎ IsTrue (is_ended next m)
       at (inl limit) same = absurd (f.some (ap (λ s. length s.events) (sym same) ∙ limit))
       at (inr ended) same =
           let old : is_ended f.state m ≡ true = subst (λ (s : State). is_ended s m ≡ true) same ended in
           inr (ended_whatever (next.stamp == 2 ^ 64 - 1) (m.stamp == 2 ^ 64 - 1)
-          (ended_by_message (f.state.stamp == 2 ^ 64 - 1) (m.stamp == 2 ^ 64 - 1) (f.message.stamp == 2 ^ 64 - 1) old f.stamp))
+          (ended_by_message (f.state.stamp == 2 ^ 64 - 1) (m.stamp == 2 ^ 64 - 1) (f.message.stamp == 2 ^ 64 - 1) old
+          f.stamp))
 
   -- a message for another element
-  held_other : (m : Message) (h : IsHeldBack count steps w m) → (route_of m.payload count ≡ number → ⊥) → IsHeldBack count steps to m
+  held_other : (m : Message) (h : IsHeldBack count steps w m) → (route_of m.payload count ≡ number → ⊥)
+      → IsHeldBack count steps to m
   held_other m h other = record {
     state = h.state;
     element = set-elsewhere w.elements number (route_of m.payload count) next other ∙ h.element;
@@ -126,10 +139,12 @@ module _ (g : Parts) (count steps : ℕ) (w : World) (k : ℕ) (f : IsFree count
       at (inr other) = held_other m h other
 
   held_before : AreHeldBefore count steps w k → AreHeldBefore count steps to k
-  held_before held j m lt at = held_on m (held j m lt (sym (before_removed w.flight _ k j lt (IsFree-within count steps w k f)) ∙ at))
+  held_before held j m lt at =
+      held_on m (held j m lt (sym (before_removed w.flight _ k j lt (IsFree-within count steps w k f)) ∙ at))
 
   -- no element has handled more than it may
-  few_after : All (λ (s : State). length s.events ≤ steps) w.elements → All (λ (s : State). length s.events ≤ steps) to.elements
+  few_after : All (λ (s : State). length s.events ≤ steps) w.elements
+      → All (λ (s : State). length s.events ≤ steps) to.elements
   few_after few n d lt = cases (cases_eq n number)
     where
       here : number < length w.elements
@@ -137,28 +152,36 @@ module _ (g : Parts) (count steps : ℕ) (w : World) (k : ℕ) (f : IsFree count
 
       old : length f.state.events < steps
       old = strictly (length f.state.events) steps
-          (subst (λ (s : State). length s.events ≤ steps) (get_or_from_slice_get w.elements number f.state f.state f.element) (few number f.state here)) f.some
+          (subst (λ (s : State). length s.events ≤ steps)
+          (get_or_from_slice_get w.elements number f.state f.state f.element) (few number f.state here)) f.some
 
       cases : (n ≡ number) ⊎ (n ≡ number → ⊥) → length (get_or (slice_set w.elements number next) n d).events ≤ steps
       cases (inl is) =
-          let at : get_or (slice_set w.elements number next) n d ≡ next = ap (λ (k : ℕ). get_or (slice_set w.elements number next) k d) is ∙ get_or-set_same w.elements number next d here in
+          let at : get_or (slice_set w.elements number next) n d ≡ next =
+          ap (λ (k : ℕ). get_or (slice_set w.elements number next) k d) is
+          ∙ get_or-set_same w.elements number next d here in
           let long = length-append f.state.events (event_of g number f.state f.message ∷ []) in
           let e = ap (λ (s : State). length s.events) at in
           let o = old in
           omega (arith, o, long, e)
-      cases (inr other) = subst (λ (s : State). length s.events ≤ steps) (sym (get_or-set_other w.elements number n next d other))
+      cases (inr other) =
+          subst (λ (s : State). length s.events ≤ steps) (sym (get_or-set_other w.elements number n next d other))
           (few n d (omega (arith, lt, length-set w.elements number next)))
 
   -- the records account for as much as before
-  accounted_after : (start : List Message) → IsAccounted start w.elements w.flight → IsAccounted start to.elements to.flight
+  accounted_after : (start : List Message) → IsAccounted start w.elements w.flight
+      → IsAccounted start to.elements to.flight
   accounted_after start was h =
       let here = slice_get_within w.elements number f.state f.element in
-      let is : get_or w.elements number f.state ≡ f.state = get_or_from_slice_get w.elements number f.state f.state f.element in
+      let is : get_or w.elements number f.state ≡ f.state =
+      get_or_from_slice_get w.elements number f.state f.state f.element in
       let s = sum_by-set (λ (x : State). sum_by h (sent_in x)) w.elements number next f.state here in
       let t = sum_by-set (weight_taken h) w.elements number next f.state here in
-      let a : sum_by h (sent_in (get_or w.elements number f.state)) ≡ sum_by h (sent_in f.state) = ap (λ (x : State). sum_by h (sent_in x)) is in
+      let a : sum_by h (sent_in (get_or w.elements number f.state)) ≡ sum_by h (sent_in f.state) =
+      ap (λ (x : State). sum_by h (sent_in x)) is in
       let b : weight_taken h (get_or w.elements number f.state) ≡ weight_taken h f.state = ap (weight_taken h) is in
-      let c : sum_by h (sent_in next) ≡ sum_by h (sent_in f.state ++ outputs_of g number f.state f.message) = ap (sum_by h) (sent_after g number f.state f.message) in
+      let c : sum_by h (sent_in next) ≡ sum_by h (sent_in f.state ++ outputs_of g number f.state f.message) =
+      ap (sum_by h) (sent_after g number f.state f.message) in
       let d = taken_after h g number f.state f.message in
       let e = weight_removed h w.flight k f.message f.at in
       let p = was h in
@@ -190,7 +213,8 @@ pub upto : (j k : ℕ) → j < k + 1 → (j ≡ k → ⊥) → j < k
 upto j k lt ne = strictly j k (omega (arith, lt)) ne
 
 -- one more that is held back
-pub held_one_more : (count steps : ℕ) (w : World) (k : ℕ) → AreHeldBefore count steps w k → IsHeldAt count steps w k → AreHeldBefore count steps w (k + 1)
+pub held_one_more : (count steps : ℕ) (w : World) (k : ℕ) → AreHeldBefore count steps w k → IsHeldAt count steps w k
+    → AreHeldBefore count steps w (k + 1)
 held_one_more count steps w k held here j m lt at = cases (cases_eq j k)
   where
     cases : (j ≡ k) ⊎ (j ≡ k → ⊥) → IsHeldBack count steps w m
@@ -199,10 +223,12 @@ held_one_more count steps w k held here j m lt at = cases (cases_eq j k)
 
 -- ---- what an element says of a message for it
 
-pub element_at : (w : World) (count n : ℕ) (es : List ElementView) (e : ElementView) (x : Message) → world_of es w.flight ≡ w → slice_get es n ≡ Some e
-    → n ≡ route_of x.payload count → slice_get w.elements (route_of x.payload count) ≡ Some e.state
+pub element_at : (w : World) (count n : ℕ) (es : List ElementView) (e : ElementView) (x : Message)
+    → world_of es w.flight ≡ w → slice_get es n ≡ Some e → n ≡ route_of x.payload count
+    → slice_get w.elements (route_of x.payload count) ≡ Some e.state
 element_at w count n es e x is at route =
-    ap (slice_get w.elements) (sym route) ∙ ap (λ (v : World). slice_get v.elements n) (sym is) ∙ slice_get-image (λ (u : ElementView). u.state) es n e at
+    ap (slice_get w.elements) (sym route) ∙ ap (λ (v : World). slice_get v.elements n) (sym is)
+    ∙ slice_get-image (λ (u : ElementView). u.state) es n e at
 
 pub held_by : (w : World) (count steps k : ℕ) (s : State) (x : Message) → slice_get w.flight k ≡ Some x →
     slice_get w.elements (route_of x.payload count) ≡ Some s
@@ -214,7 +240,8 @@ held_by w count steps k s x there at held m here =
 pub free_by : (w : World) (count steps k : ℕ) (s : State) (x : Message) → slice_get w.flight k ≡ Some x →
     slice_get w.elements (route_of x.payload count) ≡ Some s
     → length s.events ≢ steps → IsFalse (is_ended s x) → IsFree count steps w k
-free_by w count steps k s x there at some stamp = record { message = x; at = there; state = s; element = at; some = some; stamp = stamp }
+free_by w count steps k s x there at some stamp =
+    record { message = x; at = there; state = s; element = at; some = some; stamp = stamp }
 
 -- ---- what a delivery leaves
 
@@ -228,38 +255,51 @@ module _ (steps k : ℕ) (old new : MachineView) (f : IsFree old.count steps old
     same_graph = ap (λ (m : MachineView). m.graph) is;
     same_count = ap (λ (m : MachineView). m.count) is;
     same_keeps = ap (λ (m : MachineView). m.keeps) is;
-    few = subst (λ (w : World). All (λ (s : State). length s.events ≤ steps) w.elements) (sym after_is) (few_after old.graph old.count steps old.world k f few);
-    accounted = λ start was. subst (λ (w : World). IsAccounted start w.elements w.flight) (sym after_is) (accounted_after old.graph old.count steps old.world k f start was);
+    few = subst (λ (w : World). All (λ (s : State). length s.events ≤ steps) w.elements) (sym after_is)
+        (few_after old.graph old.count steps old.world k f few);
+    accounted =
+        λ start was. subst (λ (w : World). IsAccounted start w.elements w.flight) (sym after_is)
+        (accounted_after old.graph old.count steps old.world k f start was);
   }
 
   pub as_many : length new.world.elements ≡ length old.world.elements
   as_many = ap (λ (w : World). length w.elements) after_is
-      ∙ length-set old.world.elements (number old.graph old.count steps old.world k f) (next old.graph old.count steps old.world k f)
+      ∙ length-set old.world.elements (number old.graph old.count steps old.world k f)
+      (next old.graph old.count steps old.world k f)
 
   pub within_on : k ≤ length new.world.flight
   within_on = subst (λ (w : World). k ≤ length w.flight) (sym after_is)
-      (still_within old.world.flight (outputs_of old.graph (number old.graph old.count steps old.world k f) f.state f.message) k (IsFree-within old.count steps old.world k f))
+      (still_within old.world.flight
+      (outputs_of old.graph (number old.graph old.count steps old.world k f) f.state f.message) k
+      (IsFree-within old.count steps old.world k f))
 
   -- what is held back in front of a position of the old machine, if it is so behind the delivery
-  pub held_of : (from : ℕ) → AreHeldBefore old.count steps (to old.graph old.count steps old.world k f) from → AreHeldBefore new.count steps new.world from
-  held_of from held = subst (λ (n : ℕ). AreHeldBefore n steps new.world from) (sym (ap (λ (m : MachineView). m.count) is))
+  pub held_of : (from : ℕ) → AreHeldBefore old.count steps (to old.graph old.count steps old.world k f) from
+      → AreHeldBefore new.count steps new.world from
+  held_of from held =
+      subst (λ (n : ℕ). AreHeldBefore n steps new.world from) (sym (ap (λ (m : MachineView). m.count) is))
       (subst (λ (w : World). AreHeldBefore old.count steps w from) (sym after_is) held)
 
   pub held_on_all : AreHeldBefore old.count steps old.world k → AreHeldBefore new.count steps new.world k
   held_on_all held = held_of k (held_before old.graph old.count steps old.world k f held)
 
   -- the event of a delivery is the last of an element, so where it did not go well, not every event went well
-  pub failed_on : (x : Step) → (event_of old.graph (route_of f.message.payload old.count) f.state f.message).step ≡ x → x ≢ Went → HasWent new.world → ⊥
+  pub failed_on : (x : Step) → (event_of old.graph (route_of f.message.payload old.count) f.state f.message).step ≡ x
+      → x ≢ Went → HasWent new.world → ⊥
   failed_on x step_is bad went =
       let n = number old.graph old.count steps old.world k f in
       let a = next old.graph old.count steps old.world k f in
       let here = slice_get_within old.world.elements n f.state f.element in
       let all : HasWent (to old.graph old.count steps old.world k f) = subst HasWent after_is went in
-      let mine : AllWent (get_or (slice_set old.world.elements n a) n a).events = all n a (omega (arith, here, length-set old.world.elements n a)) in
-      let mine' : AllWent a.events = subst (λ (s : State). AllWent s.events) (get_or-set_same old.world.elements n a a here) mine in
+      let mine : AllWent (get_or (slice_set old.world.elements n a) n a).events =
+      all n a (omega (arith, here, length-set old.world.elements n a)) in
+      let mine' : AllWent a.events =
+      subst (λ (s : State). AllWent s.events) (get_or-set_same old.world.elements n a a here) mine in
       let v : EventView = event_of old.graph n f.state f.message in
       let long = length-append f.state.events (v ∷ []) in
-      bad (sym step_is ∙ (ap (λ (u : EventView). u.step) (sym (last f.state.events v)) ∙ mine' (length f.state.events) v (omega (arith, long))))
+      bad (sym step_is
+      ∙ (ap (λ (u : EventView). u.step) (sym (last f.state.events v))
+      ∙ mine' (length f.state.events) v (omega (arith, long))))
     where
       last : (es : List EventView) (v : EventView) → get_or (es ++ v ∷ []) (length es) v ≡ v
       last [] v = refl
@@ -296,11 +336,13 @@ all_set P ss n s all mine k d lt = cases (cases_eq k n)
     cases (inl is) =
         let here : n < length ss = (let long = length-set ss n s in omega (arith, lt, long, is)) in
         subst P (sym (ap (λ (j : ℕ). get_or (slice_set ss n s) j d) is ∙ get_or-set_same ss n s d here)) mine
-    cases (inr other) = subst P (sym (get_or-set_other ss n k s d other)) (all k d (omega (arith, lt, length-set ss n s)))
+    cases (inr other) =
+        subst P (sym (get_or-set_other ss n k s d other)) (all k d (omega (arith, lt, length-set ss n s)))
 
 module _ (steps k : ℕ) (old new : MachineView) (x : Step) (f : IsFree old.count steps old.world k)
     (is : new ≡ record old { world = delivered old.graph old.count old.world k })
-    (step_is : (event_of old.graph (route_of f.message.payload old.count) f.state f.message).step ≡ x) (went : HasWent old.world) where
+    (step_is : (event_of old.graph (route_of f.message.payload old.count) f.state f.message).step ≡ x)
+    (went : HasWent old.world) where
   abbrev place : ℕ
   place = route_of f.message.payload old.count
 
@@ -308,19 +350,22 @@ module _ (steps k : ℕ) (old new : MachineView) (x : Step) (f : IsFree old.coun
   event = event_of old.graph place f.state f.message
 
   before_it : AllWent f.state.events
-  before_it = subst (λ (s : State). AllWent s.events) (get_or_from_slice_get old.world.elements place f.state f.state f.element)
+  before_it =
+      subst (λ (s : State). AllWent s.events) (get_or_from_slice_get old.world.elements place f.state f.state f.element)
       (went place f.state (slice_get_within old.world.elements place f.state f.element))
 
   -- a delivery behind which every event went well keeps it so, where its own event does
   pub went_on : x ≡ Went → HasWent new.world
   went_on good = subst HasWent (sym (after_is steps k old new f is))
-      (all_set (λ (s : State). AllWent s.events) old.world.elements place (next old.graph old.count steps old.world k f) went
+      (all_set (λ (s : State). AllWent s.events) old.world.elements place (next old.graph old.count steps old.world k f)
+      went
       (went_more f.state.events event before_it (step_is ∙ good)))
 
   -- and whatever its event is, none came behind a fault
   pub stop_on : StopAtFaults new.world
   stop_on = subst StopAtFaults (sym (after_is steps k old new f is))
-      (all_set (λ (s : State). StopsAtFault s.events) old.world.elements place (next old.graph old.count steps old.world k f)
+      (all_set (λ (s : State). StopsAtFault s.events) old.world.elements place
+      (next old.graph old.count steps old.world k f)
       (stop_where_went old.world went) (stops_more f.state.events event before_it))
 
 -- ---- one delivery after others
@@ -335,7 +380,8 @@ goes_on_more steps a b c p q = record {
 }
 
 -- all messages are held back, where all before the end are
-pub all_held : (count steps : ℕ) (w : World) (k : ℕ) → AreHeldBefore count steps w k → k ≡ length w.flight → All (IsHeldBack count steps w) w.flight
+pub all_held : (count steps : ℕ) (w : World) (k : ℕ) → AreHeldBefore count steps w k → k ≡ length w.flight
+    → All (IsHeldBack count steps w) w.flight
 all_held count steps w k held end j d lt =
     let here : slice_get w.flight j ≡ Some (get_or w.flight j d) = slice_get-get_or w.flight j d lt in
     held j (get_or w.flight j d) (omega (arith, lt, end)) here

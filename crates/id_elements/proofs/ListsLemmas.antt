@@ -1,5 +1,7 @@
 -- Lists of doors as they are opened, split and joined.
-use Rattle.std.proofs.Common.{◌≡◌, ◌≢◌, ℕ, zero, suc, ◌+◌, ◌-◌, ◌<◌, ◌≤◌, List, [], ◌∷◌, ◌++◌, length, take, set, get_or, sym, refl, ap, ◌∙◌, subst, arith, ⊎_elim, add-one, length-set, length-append, get_or-set_same, get_or-set_other}
+use Rattle.std.proofs.Common.{◌≡◌, ◌≢◌, ℕ, zero, suc, ◌+◌, ◌-◌, ◌<◌, ◌≤◌, List, [], ◌∷◌, ◌++◌, length, take, set}
+use Rattle.std.proofs.Common.{get_or, sym, refl, ap, ◌∙◌, subst, arith, ⊎_elim, add-one, length-set, length-append}
+use Rattle.std.proofs.Common.{get_or-set_same, get_or-set_other}
 use Rattle.std.specs.List.{sum_by}
 use Rattle.std.proofs.lemmas.Bool.{cases_eq}
 use Rattle.std.proofs.lemmas.Grind.{common_steps}
@@ -13,27 +15,33 @@ use Rattle.id_inbox.specs.Hands.{both_of, kept_of, new_hand}
 use Rattle.id_elements.specs.Doors.{AreUnused, HaveParts, IsCut, IsMerged, queues_of, sent_by, taken_by}
 use Rattle.id_elements.proofs.DoorsLemmas.{queues_set, sent_by-set, taken_by-set}
 
-pub sent_by-push : (f : Message → ℕ) (ds : List DoorView) (d : DoorView) → sent_by f (ds ++ d ∷ []) ≡ sent_by f ds + sum_by f d.hand.sent
+pub sent_by-push : (f : Message → ℕ) (ds : List DoorView) (d : DoorView)
+    → sent_by f (ds ++ d ∷ []) ≡ sent_by f ds + sum_by f d.hand.sent
 sent_by-push f ds d = sum_by_push (λ (y : DoorView). sum_by f y.hand.sent) ds d
 
-pub taken_by-push : (f : Message → ℕ) (ds : List DoorView) (d : DoorView) → taken_by f (ds ++ d ∷ []) ≡ taken_by f ds + sum_by f d.hand.taken
+pub taken_by-push : (f : Message → ℕ) (ds : List DoorView) (d : DoorView)
+    → taken_by f (ds ++ d ∷ []) ≡ taken_by f ds + sum_by f d.hand.taken
 taken_by-push f ds d = sum_by_push (λ (y : DoorView). sum_by f y.hand.taken) ds d
 
-pub sent_by-cons : (f : Message → ℕ) (d : DoorView) (ds : List DoorView) → sent_by f (d ∷ ds) ≡ sum_by f d.hand.sent + sent_by f ds
+pub sent_by-cons : (f : Message → ℕ) (d : DoorView) (ds : List DoorView)
+    → sent_by f (d ∷ ds) ≡ sum_by f d.hand.sent + sent_by f ds
 sent_by-cons f d ds = sum_by-cons (λ (y : DoorView). sum_by f y.hand.sent) d ds
 
-pub taken_by-cons : (f : Message → ℕ) (d : DoorView) (ds : List DoorView) → taken_by f (d ∷ ds) ≡ sum_by f d.hand.taken + taken_by f ds
+pub taken_by-cons : (f : Message → ℕ) (d : DoorView) (ds : List DoorView)
+    → taken_by f (d ∷ ds) ≡ sum_by f d.hand.taken + taken_by f ds
 taken_by-cons f d ds = sum_by-cons (λ (y : DoorView). sum_by f y.hand.taken) d ds
 
 -- one more door that was not used
-pub unused_push : (ds : List DoorView) (d : DoorView) → AreUnused ds → d.hand.sent ≡ [] → d.hand.taken ≡ [] → AreUnused (ds ++ d ∷ [])
+pub unused_push : (ds : List DoorView) (d : DoorView) → AreUnused ds → d.hand.sent ≡ [] → d.hand.taken ≡ []
+    → AreUnused (ds ++ d ∷ [])
 unused_push ds d unused sent taken f =
     let u = unused f in
     let s = ap (sum_by f) sent in
     let t = ap (sum_by f) taken in
     (omega (arith, sent_by-push f ds d, s, u), omega (arith, taken_by-push f ds d, t, u))
 
-pub parts_push : (n : ℕ) (ds : List DoorView) (d : DoorView) → HaveParts n ds → d.hand.parts ≡ n → HaveParts n (ds ++ d ∷ [])
+pub parts_push : (n : ℕ) (ds : List DoorView) (d : DoorView) → HaveParts n ds → d.hand.parts ≡ n
+    → HaveParts n (ds ++ d ∷ [])
 parts_push n ds d parts mine = grind (arith, common_steps)
 
 -- one more inbox
@@ -78,28 +86,35 @@ merging old all theirs new d e d' same parts m is made =
     let longer : length (theirs ++ e ∷ []) ≡ n + 1 = length-append theirs (e ∷ []) in
     let rest : theirs ++ e ∷ [] ≡ take (n + 1) all = m.rest ∙ ap (λ k. take k all) longer in
     let within : n + 1 ≤ length all = subst (λ (k : ℕ). k ≤ length all) longer m.within in
-    let lt : n < length new = (let a = same_length all old same in let b = same_length new old m.queues in omega arith) in
-    let there : get_or all n e ≡ e = (sym (get_or-take (n + 1) all n e (omega arith)) ∙ ap (λ xs. get_or xs n e) (sym rest)) ∙ last_is theirs e in
+    let lt : n < length new =
+    (let a = same_length all old same in let b = same_length new old m.queues in omega arith) in
+    let there : get_or all n e ≡ e =
+    (sym (get_or-take (n + 1) all n e (omega arith)) ∙ ap (λ xs. get_or xs n e) (sym rest)) ∙ last_is theirs e in
     let one : e.hand.parts ≡ 1 = ap (λ (y : DoorView). y.hand.parts) (sym there) ∙ parts n e (omega arith) in
     record {
       within = omega arith;
-      rest = sym (take-append_seam theirs (e ∷ [])) ∙ (ap (take n) rest ∙ (ap (λ k. take n (take k all)) (add-one n) ∙ take_less n all));
+      rest = sym (take-append_seam theirs (e ∷ []))
+          ∙ (ap (take n) rest ∙ (ap (λ k. take n (take k all)) (add-one n) ∙ take_less n all));
       queues = queues_set new n d d' is lt (ap (λ (y : DoorView). y.queue) made) ∙ m.queues;
       sent = λ f.
           let a = sent_by-set f new n d d' is lt in
-          let b : sum_by f d'.hand.sent ≡ sum_by f (d.hand.sent ++ e.hand.sent) = ap (λ (y : DoorView). sum_by f y.hand.sent) made in
+          let b : sum_by f d'.hand.sent ≡ sum_by f (d.hand.sent ++ e.hand.sent) =
+          ap (λ (y : DoorView). sum_by f y.hand.sent) made in
           let c = m.sent f in
           omega (arith, a, b, c, sum_by-append f d.hand.sent e.hand.sent, sent_by-push f theirs e);
       taken = λ f.
           let a = taken_by-set f new n d d' is lt in
-          let b : sum_by f d'.hand.taken ≡ sum_by f (d.hand.taken ++ e.hand.taken) = ap (λ (y : DoorView). sum_by f y.hand.taken) made in
+          let b : sum_by f d'.hand.taken ≡ sum_by f (d.hand.taken ++ e.hand.taken) =
+          ap (λ (y : DoorView). sum_by f y.hand.taken) made in
           let c = m.taken f in
           omega (arith, a, b, c, sum_by-append f d.hand.taken e.hand.taken, taken_by-push f theirs e);
       below = λ j x l. let ne : j ≢ n = omega arith in rw get_or-set_other (m.below j x (omega arith));
       above = λ j x low high.
           ⊎_elim (λ (here : n ≡ j).
           let at : get_or (set new n d') n x ≡ d' = get_or-set_same new n d' x lt in
-          let was : d ≡ get_or old n x = is ∙ (get_or_from_slice_get new n (get_or new n x) d (slice_get-get_or new n x lt) ∙ m.below n x (omega arith)) in
+          let was : d ≡ get_or old n x =
+          is ∙ (get_or_from_slice_get new n (get_or new n x) d (slice_get-get_or new n x lt)
+          ∙ m.below n x (omega arith)) in
           let made' : d'.hand.parts ≡ d.hand.parts + e.hand.parts = ap (λ (y : DoorView). y.hand.parts) made in
           let was' : d.hand.parts ≡ (get_or old n x).hand.parts = ap (λ (y : DoorView). y.hand.parts) was in
           subst (λ (k : ℕ). (get_or (set new n d') k x).hand.parts ≡ (get_or old k x).hand.parts + 1) here
@@ -113,7 +128,8 @@ merging old all theirs new d e d' same parts m is made =
 pub merged : (old all new : List DoorView) → IsMerging old all [] new → IsMerged old all new
 merged old all new m = record {
   queues = m.queues;
-  parts = λ n h k d lt. m.above k d (omega arith) lt ∙ ap (λ (j : ℕ). j + 1) (h k d (let e = same_length new old m.queues in omega arith));
+  parts = λ n h k d lt. m.above k d (omega arith) lt
+      ∙ ap (λ (j : ℕ). j + 1) (h k d (let e = same_length new old m.queues in omega arith));
   sent = λ f. omega (arith, m.sent f);
   taken = λ f. omega (arith, m.taken f);
 }
@@ -130,8 +146,8 @@ pub record IsSplitting (old new theirs : List DoorView) (i : ℕ) : Type 0 where
   pub theirs_unused : AreUnused theirs
 
 -- one more door was split
-pub split_more : (old new theirs : List DoorView) (i : ℕ) (d d' e : DoorView) → i < length old → IsSplitting old new theirs i
-    → d ≡ get_or new i d → d' ≡ record d { hand = kept_of d.hand; saw = d'.saw }
+pub split_more : (old new theirs : List DoorView) (i : ℕ) (d d' e : DoorView) → i < length old
+    → IsSplitting old new theirs i → d ≡ get_or new i d → d' ≡ record d { hand = kept_of d.hand; saw = d'.saw }
     → e ≡ record { queue = d.queue; hand = new_hand; saw = e.saw }
     → IsSplitting old (set new i d') (theirs ++ e ∷ []) (i + 1)
 split_more old new theirs i d d' e lt s is cut made =
@@ -164,7 +180,8 @@ split_more old new theirs i d d' e lt s is cut made =
           let c = s.taken f in
           omega (arith, a, b, c);
       theirs_queues =
-          let q : e.queue ≡ (get_or old i d).queue = ap (λ (y : DoorView). y.queue) made ∙ ap (λ (y : DoorView). y.queue) (was d) in
+          let q : e.queue ≡ (get_or old i d).queue =
+          ap (λ (y : DoorView). y.queue) made ∙ ap (λ (y : DoorView). y.queue) (was d) in
           queues_push theirs e
           ∙ (ap (λ qs. qs ++ e.queue ∷ []) s.theirs_queues
           ∙ (ap (λ x. queues_of (take i old) ++ x ∷ []) q ∙ sym (map_more (λ (y : DoorView). y.queue) old i d lt)));
@@ -188,7 +205,8 @@ split_end old new theirs i all s =
     )
 
 -- the last door of those that are left stands at its place among all
-last_of : (old all theirs new : List DoorView) (e : DoorView) → IsMerging old all (theirs ++ e ∷ []) new → get_or all (length theirs) e ≡ e
+last_of : (old all theirs new : List DoorView) (e : DoorView) → IsMerging old all (theirs ++ e ∷ []) new
+    → get_or all (length theirs) e ≡ e
 last_of old all theirs new e m =
     let n : ℕ = length theirs in
     let rest : theirs ++ e ∷ [] ≡ take (n + 1) all = m.rest ∙ ap (λ k. take k all) (length-append theirs (e ∷ [])) in
@@ -196,7 +214,8 @@ last_of old all theirs new e m =
 
 -- it is to the inbox of the one at its place
 pub same_inbox : (old all theirs new : List DoorView) (d e : DoorView)
-    → queues_of all ≡ queues_of old → IsMerging old all (theirs ++ e ∷ []) new → d ≡ get_or new (length theirs) d → e.queue ≡ d.queue
+    → queues_of all ≡ queues_of old → IsMerging old all (theirs ++ e ∷ []) new → d ≡ get_or new (length theirs) d
+    → e.queue ≡ d.queue
 same_inbox old all theirs new d e same m is =
     let n : ℕ = length theirs in
     let within : n + 1 ≤ length all = subst (λ (k : ℕ). k ≤ length all) (length-append theirs (e ∷ [])) m.within in
@@ -204,13 +223,17 @@ same_inbox old all theirs new d e same m is =
     let b = same_length new old m.queues in
     let lt : n < length all = omega arith in
     let lt' : n < length new = omega arith in
-    let theirs_is : get_or (queues_of all) n e.queue ≡ e.queue = get_or-map (λ (y : DoorView). y.queue) all n e e.queue lt ∙ ap (λ (y : DoorView). y.queue) (last_of old all theirs new e m) in
-    let ours_is : get_or (queues_of new) n e.queue ≡ d.queue = get_or-map (λ (y : DoorView). y.queue) new n d e.queue lt' ∙ ap (λ (y : DoorView). y.queue) (sym is) in
+    let theirs_is : get_or (queues_of all) n e.queue ≡ e.queue =
+    get_or-map (λ (y : DoorView). y.queue) all n e e.queue lt
+    ∙ ap (λ (y : DoorView). y.queue) (last_of old all theirs new e m) in
+    let ours_is : get_or (queues_of new) n e.queue ≡ d.queue =
+    get_or-map (λ (y : DoorView). y.queue) new n d e.queue lt' ∙ ap (λ (y : DoorView). y.queue) (sym is) in
     sym theirs_is ∙ (ap (λ qs. get_or qs n e.queue) (same ∙ sym m.queues) ∙ ours_is)
 
 -- where each door has sent what it has taken, so have all together
 pub all_empty : (f : Message → ℕ) (ds : List DoorView) (n : ℕ) → length ds ≤ n
-    → ((j : ℕ) (d : DoorView) → j < n → (g : Message → ℕ) → sum_by g (get_or ds j d).hand.sent ≡ sum_by g (get_or ds j d).hand.taken)
+    → ((j : ℕ) (d : DoorView) → j < n → (g : Message → ℕ)
+    → sum_by g (get_or ds j d).hand.sent ≡ sum_by g (get_or ds j d).hand.taken)
     → sent_by f ds ≡ taken_by f ds
 all_empty f [] n all each = refl
 all_empty f (x ∷ xs) zero all each = absurd (omega arith)

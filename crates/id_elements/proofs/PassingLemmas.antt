@@ -1,5 +1,6 @@
 -- How messages move from the end of an element's own to the letters for others (specs/Passing.antt).
-use Rattle.std.proofs.Common.{◌≡◌, ℕ, ◌+◌, ◌-◌, ◌<◌, List, [], ◌∷◌, ◌++◌, All, length, reverse, get_or, take, refl, sym, ap, subst, ◌∙◌, arith, append_assoc, length-append}
+use Rattle.std.proofs.Common.{◌≡◌, ℕ, ◌+◌, ◌-◌, ◌<◌, List, [], ◌∷◌, ◌++◌, All, length, reverse, get_or, take, refl, sym}
+use Rattle.std.proofs.Common.{ap, subst, ◌∙◌, arith, append_assoc, length-append}
 use Rattle.std.specs.Prelude.{Some, slice_get, Result, Ok, Err}
 use Rattle.std.specs.declared.alloc.AllocError.{AllocError}
 use Rattle.std.specs.List.{sum_by}
@@ -41,11 +42,13 @@ module _ {X : Type 0} (own own' : List X) (x : X) (is : own ≡ own' ++ x ∷ []
   pub at_last : (k : ℕ) (m : X) → k ≡ length own - 1 → slice_get own k ≡ Some m → m ≡ x
   at_last k m last at =
       let e : k ≡ length own' = (let l = length_last in omega arith) in
-      sym (get_or_from_slice_get own k m m at) ∙ ap (λ n. get_or own n m) e ∙ ap (λ ms. get_or ms (length own') m) is ∙ get_or-append_seam own' x [] m
+      sym (get_or_from_slice_get own k m m at) ∙ ap (λ n. get_or own n m) e ∙ ap (λ ms. get_or ms (length own') m) is
+      ∙ get_or-append_seam own' x [] m
 
   pub All-last : (P : X → Type 0) → All P own → P x
   All-last P all =
-      let e : get_or own (length own') x ≡ x = ap (λ ms. get_or ms (length own') x) is ∙ get_or-append_seam own' x [] x in
+      let e : get_or own (length own') x ≡ x =
+      ap (λ ms. get_or ms (length own') x) is ∙ get_or-append_seam own' x [] x in
       subst P e (all (length own') x (let l = length_last in omega arith))
 
 -- ---- the last message is sent on
@@ -65,8 +68,10 @@ IsLastSent-back n count own own' back back' ls k many last goal put =
           let b : sum_by f back' ≡ sum_by f (back ++ x ∷ []) = ap (sum_by f) put.to_is in
           omega (arith, a, b, sum_by_push f own' x, sum_by_push f back x);
       count = refl;
-      fits = λ g all kept. subst (All (Fits g)) (sym put.to_is) (All-push (Fits g) back x kept (All-last own own' x put.from_is (Fits g) all));
-      routed = λ all. subst (AreRouted (length ls) n) (sym put.to_is) (All-push (λ m. route_of m.payload (length ls) ≡ n) back x all mine);
+      fits = λ g all kept. subst (All (Fits g)) (sym put.to_is)
+          (All-push (Fits g) back x kept (All-last own own' x put.from_is (Fits g) all));
+      routed = λ all. subst (AreRouted (length ls) n) (sym put.to_is)
+          (All-push (λ m. route_of m.payload (length ls) ≡ n) back x all mine);
       moved = before_last own own' x put.from_is;
       stays = tt;
     }
@@ -74,28 +79,33 @@ IsLastSent-back n count own own' back back' ls k many last goal put =
 -- ---- all of the last messages are
 
 -- so many of the last have been sent on
-pub record IsSending (n sent done : ℕ) (own back : List Message) (ls : List QueueView) (own' back' : List Message) (ls' : List QueueView) :
+pub record IsSending (n sent done : ℕ) (own back : List Message) (ls : List QueueView) (own' back' : List Message)
+    (ls' : List QueueView) :
     Type 0 where
-  pub weight : (f : Message → ℕ) → sum_by f own' + sum_by f back' + weight_in f ls' ≡ sum_by f own + sum_by f back + weight_in f ls
+  pub weight : (f : Message → ℕ)
+      → sum_by f own' + sum_by f back' + weight_in f ls' ≡ sum_by f own + sum_by f back + weight_in f ls
   pub count : length ls' ≡ length ls
   pub own_is : own' ≡ take (length own - done) own
   pub fits : (g : Parts) → All (Fits g) own → All (Fits g) back → All (Fits g) back'
   pub routed : AreRouted (length ls) n back → AreRouted (length ls) n back'
 
-module _ (n sent done : ℕ) (own back : List Message) (ls : List QueueView) (own' back' : List Message) (ls' : List QueueView)
+module _ (n sent done : ℕ) (own back : List Message) (ls : List QueueView) (own' back' : List Message)
+    (ls' : List QueueView)
     (was : IsSending n sent done own back ls own' back' ls') where
   -- one more
-  pub IsSending-more : (own2 back2 : List Message) (ls2 : List QueueView) → IsLastSent n own' back' ls' own2 back2 ls2 (Ok tt)
-      → IsSending n sent (done + 1) own back ls own2 back2 ls2
+  pub IsSending-more : (own2 back2 : List Message) (ls2 : List QueueView)
+      → IsLastSent n own' back' ls' own2 back2 ls2 (Ok tt) → IsSending n sent (done + 1) own back ls own2 back2 ls2
   IsSending-more own2 back2 ls2 step = record {
     weight = λ f. step.weight f ∙ was.weight f;
     count = step.count ∙ was.count;
     own_is =
         let e : length own' - 1 ≡ length own - (done + 1) =
-        (let l : length own' ≡ length (take (length own - done) own) = ap length was.own_is in omega (arith, l, length-take-le (length own - done) own (omega arith))) in
+        (let l : length own' ≡ length (take (length own - done) own) = ap length was.own_is in
+        omega (arith, l, length-take-le (length own - done) own (omega arith))) in
         step.moved ∙ ap (λ (k : ℕ). take k own') e ∙ ap (λ ms. take (length own - (done + 1)) ms) was.own_is
         ∙ take-take (length own - (done + 1)) (length own - done) own (omega arith);
-    fits = λ g all kept. step.fits g (subst (All (Fits g)) (sym was.own_is) (All-take (Fits g) (length own - done) own all)) (was.fits g all kept);
+    fits = λ g all kept. step.fits g
+        (subst (All (Fits g)) (sym was.own_is) (All-take (Fits g) (length own - done) own all)) (was.fits g all kept);
     routed = λ all. subst (λ (c : ℕ). AreRouted c n back2) was.count
         (step.routed (subst (λ (c : ℕ). AreRouted c n back') (sym was.count) (was.routed all)));
   }
@@ -115,13 +125,19 @@ module _ (n sent done : ℕ) (own back : List Message) (ls : List QueueView) (ow
             (subst (All (Fits g)) (sym was.own_is) (All-take (Fits g) (length own - done) own fit))
             (All-reverse (Fits g) back' (was.fits g fit kept)));
         routed = λ none there.
-            let front : All Routed own' = subst (All Routed) (sym was.own_is) (subst (λ (k : ℕ). All Routed (take (length own - k) own)) (sym all) there) in
-            let some : All Routed back = subst (All Routed) (sym none) (All-nil Routed) in
-            (empty, subst (All Routed) (sym own_is) (All-append Routed own' (reverse back') front (All-reverse Routed back' (was.routed some))));
+            let front : All Routed own' =
+            subst (All Routed) (sym was.own_is)
+            (subst (λ (k : ℕ). All Routed (take (length own - k) own)) (sym all) there) in
+            let some : All Routed back = subst (All Routed) (sym none) (All-nil Routed) in (
+              empty,
+              subst (All Routed) (sym own_is)
+                  (All-append Routed own' (reverse back') front (All-reverse Routed back' (was.routed some))),
+            );
       }
 
 -- those in front of these are for the element: then fewer are to be sent on
-pub IsSentOn-fewer : (n sent fewer : ℕ) (own back : List Message) (ls : List QueueView) (own' back' : List Message) (ls' : List QueueView)
+pub IsSentOn-fewer : (n sent fewer : ℕ) (own back : List Message) (ls : List QueueView) (own' back' : List Message)
+    (ls' : List QueueView)
     (r : Result (Unit {0}) AllocError) → IsSentOn n fewer own back ls own' back' ls' r
     → (AreRouted (length ls) n (take (length own - sent) own) → AreRouted (length ls) n (take (length own - fewer) own))
     → IsSentOn n sent own back ls own' back' ls' r
@@ -141,15 +157,16 @@ IsSentOn-fewer n sent fewer own back ls own' back' ls' (Err e) on front = record
 -- ---- one after another comes back
 
 -- the last of these goes in front of the others, behind what is there
-pub last_back : (own back own' back' : List Message) → IsLastMoved back own back' own' → own' ++ reverse back' ≡ own ++ reverse back
+pub last_back : (own back own' back' : List Message) → IsLastMoved back own back' own'
+    → own' ++ reverse back' ≡ own ++ reverse back
 last_back own back own' back' put =
     let x = put.message in
     ap (λ ms. ms ++ reverse back') put.to_is ∙ append_assoc own (x ∷ []) (reverse back')
     ∙ ap (λ ms. own ++ ms) (sym (reverse-append back' (x ∷ [])) ∙ ap reverse (sym put.from_is))
 
 -- one more is for the element of this number
-pub routed_more : (count n : ℕ) (ms : List Message) (k to : ℕ) → IsGoalAt count ms k to → to ≡ n → AreRouted count n (take k ms)
-    → AreRouted count n (take (k + 1) ms)
+pub routed_more : (count n : ℕ) (ms : List Message) (k to : ℕ) → IsGoalAt count ms k to → to ≡ n
+    → AreRouted count n (take k ms) → AreRouted count n (take (k + 1) ms)
 routed_more count n ms k to goal same all =
     let m = goal.message in
     let P : Message → Type 0 = λ x. route_of x.payload count ≡ n in

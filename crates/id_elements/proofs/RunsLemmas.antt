@@ -1,5 +1,6 @@
 -- What workers have come to is a machine, and its run (specs/Runs.antt).
-use Rattle.std.proofs.Common.{◌≡◌, ◌≢◌, ℕ, zero, suc, ◌+◌, ◌<◌, ◌≤◌, ◌⊎◌, inl, inr, Bool, true, false, not, ◌||◌, Result, Ok, Err, List, [], ◌∷◌, All, length, get_or, refl, sym, ap, subst, ◌∙◌, arith}
+use Rattle.std.proofs.Common.{◌≡◌, ◌≢◌, ℕ, zero, suc, ◌+◌, ◌<◌, ◌≤◌, ◌⊎◌, inl, inr, Bool, true, false, not, ◌||◌}
+use Rattle.std.proofs.Common.{Result, Ok, Err, List, [], ◌∷◌, All, length, get_or, refl, sym, ap, subst, ◌∙◌, arith}
 use Rattle.std.specs.Prelude.{◌↔◌, IfOk}
 use Rattle.std.specs.List.Sorted.{IsPermutation, IsStrictlySortedBy}
 use Rattle.std.proofs.lemmas.List.Folds.{flat_map-map}
@@ -22,7 +23,8 @@ use Rattle.id_core.specs.Events.{AllWent, EventView}
 use Rattle.id_step.specs.Fits.{Fits}
 use Rattle.id_core.specs.Steps.{State}
 use Rattle.id_step.specs.Replays.{ElementView, Replays}
-use Rattle.id_core.specs.Machines.{AllKeep, AreElements, IsElement, IsMachine, MachineView, World, start_messages, world_of}
+use Rattle.id_core.specs.Machines.{AllKeep, AreElements, IsElement, IsMachine, MachineView, World, start_messages}
+use Rattle.id_core.specs.Machines.{world_of}
 use Rattle.id_core.specs.Observed.{events_of}
 use Rattle.id_runs.specs.Accounts.{IsAccounted}
 use Rattle.id_runs.specs.Orders.{AreReplayed, OrdersAreRuns}
@@ -37,51 +39,64 @@ use Rattle.id_elements.specs.Workers.{StopsAtFault, sent_in}
 
 -- ---- what is gathered
 
-pub elements_gathered : (g : Parts) (count most : ℕ) (keeps : Keeps) (es : List ElementView) → AreGathered g count most keeps 0 es → AreElements g count es
-elements_gathered g count most keeps es all n d lt = subst (λ (k : ℕ). IsElement g count k (get_or es n d)) (let k : 0 + n ≡ n = omega arith in k) (all n d lt).element
+pub elements_gathered : (g : Parts) (count most : ℕ) (keeps : Keeps) (es : List ElementView)
+    → AreGathered g count most keeps 0 es → AreElements g count es
+elements_gathered g count most keeps es all n d lt =
+    subst (λ (k : ℕ). IsElement g count k (get_or es n d)) (let k : 0 + n ≡ n = omega arith in k) (all n d lt).element
 
-pub kept_gathered : (g : Parts) (count most : ℕ) (keeps : Keeps) (es : List ElementView) → AreGathered g count most keeps 0 es → AllKeep keeps es
+pub kept_gathered : (g : Parts) (count most : ℕ) (keeps : Keeps) (es : List ElementView)
+    → AreGathered g count most keeps 0 es → AllKeep keeps es
 kept_gathered g count most keeps es all n d lt = (all n d lt).kept
 
-pub few_gathered : (g : Parts) (count most : ℕ) (keeps : Keeps) (es : List ElementView) → AreGathered g count most keeps 0 es → All (λ (s : State). length s.events ≤ most) (states_of es)
+pub few_gathered : (g : Parts) (count most : ℕ) (keeps : Keeps) (es : List ElementView)
+    → AreGathered g count most keeps 0 es → All (λ (s : State). length s.events ≤ most) (states_of es)
 few_gathered g count most keeps es all n d lt = go es n d lt (λ k e l. (all k e l).few)
   where
     go : (es : List ElementView) (n : ℕ) (d : State) → n < length (states_of es)
-        → ((k : ℕ) (e : ElementView) → k < length es → length (get_or es k e).state.events ≤ most) → length (get_or (states_of es) n d).events ≤ most
+        → ((k : ℕ) (e : ElementView) → k < length es → length (get_or es k e).state.events ≤ most)
+        → length (get_or (states_of es) n d).events ≤ most
     go [] n d lt each = absurd (omega arith)
     go (x ∷ xs) zero d lt each = each 0 x (omega arith)
     go (x ∷ xs) (suc n) d lt each = go xs n d (omega arith) (λ k e l. each (suc k) e (omega arith))
 
 -- nor behind a fault
-pub stops_gathered : (g : Parts) (count most : ℕ) (keeps : Keeps) (es : List ElementView) → AreGathered g count most keeps 0 es → All (λ (s : State). StopsAtFault s.events) (states_of es)
+pub stops_gathered : (g : Parts) (count most : ℕ) (keeps : Keeps) (es : List ElementView)
+    → AreGathered g count most keeps 0 es → All (λ (s : State). StopsAtFault s.events) (states_of es)
 stops_gathered g count most keeps es all n d lt = go es n d lt (λ k e l. (all k e l).stops)
   where
     go : (es : List ElementView) (n : ℕ) (d : State) → n < length (states_of es)
-        → ((k : ℕ) (e : ElementView) → k < length es → StopsAtFault (get_or es k e).state.events) → StopsAtFault (get_or (states_of es) n d).events
+        → ((k : ℕ) (e : ElementView) → k < length es → StopsAtFault (get_or es k e).state.events)
+        → StopsAtFault (get_or (states_of es) n d).events
     go [] n d lt each = absurd (omega arith)
     go (x ∷ xs) zero d lt each = each 0 x (omega arith)
     go (x ∷ xs) (suc n) d lt each = go xs n d (omega arith) (λ k e l. each (suc k) e (omega arith))
 
 -- what the elements sent fits
-sent_fits : (g : Parts) (es : List ElementView) → ((k : ℕ) (e : ElementView) → k < length es → All (Fits g) (sent_in (get_or es k e).state))
+sent_fits : (g : Parts) (es : List ElementView)
+    → ((k : ℕ) (e : ElementView) → k < length es → All (Fits g) (sent_in (get_or es k e).state))
     → All (Fits g) (flat_map (λ (v : EventView). v.outputs) (events_of (states_of es)))
 sent_fits g [] each = All-nil (Fits g)
 sent_fits g (x ∷ xs) each =
-    subst (All (Fits g)) (sym (flat_map-append (λ (v : EventView). v.outputs) x.state.events (events_of (states_of xs))))
-    (All-append (Fits g) (sent_in x.state) (flat_map (λ (v : EventView). v.outputs) (events_of (states_of xs))) (each 0 x (omega arith))
+    subst (All (Fits g))
+    (sym (flat_map-append (λ (v : EventView). v.outputs) x.state.events (events_of (states_of xs))))
+    (All-append (Fits g) (sent_in x.state) (flat_map (λ (v : EventView). v.outputs) (events_of (states_of xs)))
+    (each 0 x (omega arith))
     (sent_fits g xs (λ k e l. each (suc k) e (omega arith))))
 
 -- so does what is left
-pub left_fits : (g : Parts) (vs : List Constant) (count most : ℕ) (keeps : Keeps) (es : List ElementView) (left : List Message) → AreGathered g count most keeps 0 es
+pub left_fits : (g : Parts) (vs : List Constant) (count most : ℕ) (keeps : Keeps) (es : List ElementView)
+    (left : List Message) → AreGathered g count most keeps 0 es
     → All (Fits g) (start_messages g vs) → IsAccounted (start_messages g vs) (states_of es) left → All (Fits g) left
 left_fits g vs count most keeps es left all begun accounted =
-    All-from_recursion (Fits g) left (left_holds (Fits g) g vs (record { elements = states_of es; flight = left }) accounted
+    All-from_recursion (Fits g) left
+    (left_holds (Fits g) g vs (record { elements = states_of es; flight = left }) accounted
     (recursion_from_All (Fits g) (start_messages g vs) begun)
     (recursion_from_All (Fits g) _ (sent_fits g es (λ k e l. (all k e l).sent))))
 
 -- they are a machine's
-pub machine_gathered : (g : Parts) (vs : List Constant) (count most : ℕ) (keeps : Keeps) (es : List ElementView) (left : List Message) → 0 < count → count ≤ 64
-    → length es ≡ count → AreGathered g count most keeps 0 es → All (Fits g) (start_messages g vs)
+pub machine_gathered : (g : Parts) (vs : List Constant) (count most : ℕ) (keeps : Keeps) (es : List ElementView)
+    (left : List Message) → 0 < count → count ≤ 64 → length es ≡ count → AreGathered g count most keeps 0 es
+    → All (Fits g) (start_messages g vs)
     → IsAccounted (start_messages g vs) (states_of es) left → IsMachine g keeps es left
 machine_gathered g vs count most keeps es left some few long all begun accounted = record {
   at_least_one = omega arith;
@@ -99,15 +114,21 @@ pub one_more : {A : Type 0} (P : A → Type 0) (xs : List A) (n : ℕ) (x : A) �
 one_more P xs n x there is here before k d lt = cases (cases_eq k n)
   where
     cases : (k ≡ n) ⊎ (k ≡ n → ⊥) → P (get_or xs k d)
-    cases (inl same) = subst P (is ∙ (get_or_from_slice_get xs n (get_or xs n d) x (slice_get-get_or xs n d there) ∙ ap (λ j. get_or xs j d) (sym same))) here
+    cases (inl same) =
+        subst P (is
+        ∙ (get_or_from_slice_get xs n (get_or xs n d) x (slice_get-get_or xs n d there)
+        ∙ ap (λ j. get_or xs j d) (sym same))) here
     cases (inr other) = before k d (upto k n lt other)
 
 -- its states are what the records lead to
-pub replayed_of : (m : MachineView) (es : List ElementView) → AreElements m.graph m.count es → world_of es m.world.flight ≡ m.world
-    → length es ≡ m.count → ((k : ℕ) (d : ElementView) → k < length es → Replays (get_or es k d)) → AreReplayed m.graph m.count m.world.elements
+pub replayed_of : (m : MachineView) (es : List ElementView) → AreElements m.graph m.count es
+    → world_of es m.world.flight ≡ m.world → length es ≡ m.count
+    → ((k : ℕ) (d : ElementView) → k < length es → Replays (get_or es k d))
+    → AreReplayed m.graph m.count m.world.elements
 replayed_of m es are is long each =
     let same : states_of es ≡ m.world.elements = ap (λ (w : World). w.elements) is in
-    subst (AreReplayed m.graph m.count) same (AreReplayed-from m.graph m.count es long are (recursion_from_All Replays es each))
+    subst (AreReplayed m.graph m.count) same
+    (AreReplayed-from m.graph m.count es long are (recursion_from_All Replays es each))
 
 -- ---- whether no event was `Stuck`
 
@@ -121,18 +142,25 @@ all_move [] each k d lt = absurd (omega arith)
 all_move (x ∷ xs) each zero d lt = each x (inl refl)
 all_move (x ∷ xs) each (suc k) d lt = all_move xs (λ v h. each v (inr h)) k d (omega arith)
 
-moves_from : (es : List ElementView) → All (λ (e : ElementView). AllMove e.state.events) es → (v : EventView) → Among v (events_of (states_of es)) → v.step ≢ Stuck
+moves_from : (es : List ElementView) → All (λ (e : ElementView). AllMove e.state.events) es → (v : EventView)
+    → Among v (events_of (states_of es)) → v.step ≢ Stuck
 moves_from [] all v h = absurd h
-moves_from (x ∷ xs) all v h = at (Among-either v x.state.events (events_of (states_of xs)) h) (moves_from xs (λ n d l. all (suc n) d (omega arith)) v)
+moves_from (x ∷ xs) all v h =
+    at (Among-either v x.state.events (events_of (states_of xs)) h)
+    (moves_from xs (λ n d l. all (suc n) d (omega arith)) v)
   where
-    at : Among v x.state.events ⊎ Among v (events_of (states_of xs)) → (Among v (events_of (states_of xs)) → v.step ≢ Stuck) → v.step ≢ Stuck
+    at : Among v x.state.events ⊎ Among v (events_of (states_of xs))
+        → (Among v (events_of (states_of xs)) → v.step ≢ Stuck) → v.step ≢ Stuck
     at (inl k) rest = move_one x.state.events v (all 0 x (omega arith)) k
     at (inr k) rest = rest k
 
-moves_to : (es : List ElementView) → ((v : EventView) → Among v (events_of (states_of es)) → v.step ≢ Stuck) → All (λ (e : ElementView). AllMove e.state.events) es
+moves_to : (es : List ElementView) → ((v : EventView) → Among v (events_of (states_of es)) → v.step ≢ Stuck)
+    → All (λ (e : ElementView). AllMove e.state.events) es
 moves_to [] each k d lt = absurd (omega arith)
-moves_to (x ∷ xs) each zero d lt = all_move x.state.events (λ v h. each v (Among-left v x.state.events (events_of (states_of xs)) h))
-moves_to (x ∷ xs) each (suc k) d lt = moves_to xs (λ v h. each v (Among-right v x.state.events (events_of (states_of xs)) h)) k d (omega arith)
+moves_to (x ∷ xs) each zero d lt =
+    all_move x.state.events (λ v h. each v (Among-left v x.state.events (events_of (states_of xs)) h))
+moves_to (x ∷ xs) each (suc k) d lt =
+    moves_to xs (λ v h. each v (Among-right v x.state.events (events_of (states_of xs)) h)) k d (omega arith)
 
 -- which is noted of each element
 moves_step : (s : Step) → is_stuck s ≡ false → s ≢ Stuck
@@ -198,16 +226,19 @@ went_from m es is = (
 -- ---- the run
 
 -- a machine that has come to an end from what workers have left is a run
-pub run_from : (g : Parts) (vs : List Constant) (count steps : ℕ) (a m : MachineView) → OrdersAreRuns → a.graph ≡ g → a.count ≡ count
-    → IsAccounted (start_messages g vs) a.world.elements a.world.flight → StopAtFaults a.world → IsFinished steps a m → AreReplayed m.graph m.count m.world.elements
+pub run_from : (g : Parts) (vs : List Constant) (count steps : ℕ) (a m : MachineView) → OrdersAreRuns → a.graph ≡ g
+    → a.count ≡ count → IsAccounted (start_messages g vs) a.world.elements a.world.flight → StopAtFaults a.world
+    → IsFinished steps a m → AreReplayed m.graph m.count m.world.elements
     → IsRun g vs count steps m
 run_from g vs count steps a m law graph_is count_is accounted stops done replayed =
     let on = done.on in
     let g_is : m.graph ≡ g = on.same_graph ∙ graph_is in
     let c_is : m.count ≡ count = on.same_count ∙ count_is in
     let r : AreReplayed g count m.world.elements =
-    subst (λ (h : Parts). AreReplayed h count m.world.elements) g_is (subst (λ (c : ℕ). AreReplayed m.graph c m.world.elements) c_is replayed) in
-    let k : IsAccounted (start_messages g vs) m.world.elements m.world.flight = on.accounted (start_messages g vs) accounted in
+    subst (λ (h : Parts). AreReplayed h count m.world.elements) g_is
+    (subst (λ (c : ℕ). AreReplayed m.graph c m.world.elements) c_is replayed) in
+    let k : IsAccounted (start_messages g vs) m.world.elements m.world.flight =
+    on.accounted (start_messages g vs) accounted in
     record {
       graph_is = g_is;
       count_is = c_is;
@@ -232,12 +263,13 @@ if_never P Q (Err e) never = tt
 -- ---- all events
 
 -- the events of the elements are those of the machine
-pub merged_of : {E : Type 0} (es : List ElementView) (left : List Message) (w : World) (r : Result (List EventView) E) → world_of es left ≡ w
-    → IfOk r (λ m. IsPermutation (flat_map (λ (e : ElementView). e.state.events) es) m) → IfOk r (λ m. IsStrictlySortedBy by_moment m)
-    → IfOk r (AreMergedOf w.elements)
+pub merged_of : {E : Type 0} (es : List ElementView) (left : List Message) (w : World) (r : Result (List EventView) E)
+    → world_of es left ≡ w → IfOk r (λ m. IsPermutation (flat_map (λ (e : ElementView). e.state.events) es) m)
+    → IfOk r (λ m. IsStrictlySortedBy by_moment m) → IfOk r (AreMergedOf w.elements)
 merged_of es left w (Err e) is all sorted = tt
 merged_of es left w (Ok m) is all sorted = record {
   all = subst (λ (x : World). IsPermutation (events_of x.elements) m) is
-      (subst (λ (l : List EventView). IsPermutation l m) (sym (flat_map-map (λ (s : State). s.events) (λ e. e.state) es)) all);
+      (subst (λ (l : List EventView). IsPermutation l m)
+      (sym (flat_map-map (λ (s : State). s.events) (λ e. e.state) es)) all);
   sorted = sorted;
 }

@@ -1,4 +1,5 @@
--- A worker may go to another thread: each of its parts may. They are shown one after another, since one `search` for all
+-- A worker may go to another thread: each of its parts may. They are shown one after another, since one `search` for
+-- all
 -- of them runs out of its steps.
 use denote.Builtin.{u64}
 use denote.Ref.{NamedLft}

@@ -9,14 +9,16 @@ use Rattle.id_compile.specs.declared.error.EngineError.TheVariants.{BadInput, Ba
 use Rattle.id_compile.specs.declared.error.EngineError.TheVariants.{TooManyFacts, Memory, Write}
 use Rattle.id_compile.specs.Programs.{HasInputs}
 use Rattle.id_compile.specs.Refusals.{AreRefusedFacts, IsRefusedRun}
-use Rattle.id_compile.specs.Refusals.IsRefusedRun.{by_source as by_run_source, no_elements, too_many_elements, no_steps, too_many_steps}
+use Rattle.id_compile.specs.Refusals.IsRefusedRun.{by_source as by_run_source, no_elements, too_many_elements, no_steps}
+use Rattle.id_compile.specs.Refusals.IsRefusedRun.{too_many_steps}
 use Rattle.id_compile.specs.Refusals.IsRefusedSource.{by_memory as no_memory}
 use Rattle.id_compile.specs.Refusals.AreRefusedFacts.{by_source, bad_rounds, too_many_facts}
 use Rattle.id_engine.specs.Reports.{AreAllowed, AreRefusedRounds, IsUnallowed}
 use Rattle.id_compile.proofs.AnsweredLemmas.{IsLate}
 
 -- nor are refused rounds
-pub late_rounds : (text : List ℕ) (S : Source) (round : ℕ) (e : EngineError) → AreRefusedRounds S round e → IsLate text e
+pub late_rounds : (text : List ℕ) (S : Source) (round : ℕ) (e : EngineError) → AreRefusedRounds S round e
+    → IsLate text e
 late_rounds text S round (Compile x) h = absurd h
 late_rounds text S round (MissingInput x) h = absurd h
 late_rounds text S round (UnknownInput j) h = absurd h
@@ -44,8 +46,8 @@ late_unallowed text count steps Memory h = let n : Memory ≢ Write = λ k. absu
 late_unallowed text count steps Write h = absurd h
 
 -- and it is why the run of the text is refused
-pub refused_unallowed : (text : List ℕ) (ws : List (List ℕ)) (count steps : ℕ) → HasInputs text ws → (e : EngineError) → IsUnallowed count steps e
-    → IsRefusedRun text ws count steps e
+pub refused_unallowed : (text : List ℕ) (ws : List (List ℕ)) (count steps : ℕ) → HasInputs text ws → (e : EngineError)
+    → IsUnallowed count steps e → IsRefusedRun text ws count steps e
 refused_unallowed text ws count steps i (Compile x) h = absurd h
 refused_unallowed text ws count steps i (MissingInput x) h = absurd h
 refused_unallowed text ws count steps i (UnknownInput j) h = absurd h
@@ -83,9 +85,11 @@ same_err : {A E : Type 0} (r : Result A E) (x y : E) → r ≡ Err x → r ≡ E
 same_err r x y h k = cc
 
 -- where memory is wanted the numbers were looked at, and are allowed
-pub allowed_then : {A E : Type 0} (count steps : ℕ) (r : Result A E) (bad_elements bad_steps memory : E) → r ≡ Err memory
-    → (memory ≡ bad_elements → ⊥) → (memory ≡ bad_steps → ⊥) → ((r ≡ Err bad_elements) ↔ ((count ≡ 0) ⊎ (64 < count)))
-    → ((r ≡ Err bad_steps) ↔ ((0 < count) × (count ≤ 64) × ((steps ≡ 0) ⊎ (100000000 < steps)))) → AreAllowed count steps
+pub allowed_then : {A E : Type 0} (count steps : ℕ) (r : Result A E) (bad_elements bad_steps memory : E)
+    → r ≡ Err memory → (memory ≡ bad_elements → ⊥) → (memory ≡ bad_steps → ⊥)
+    → ((r ≡ Err bad_elements) ↔ ((count ≡ 0) ⊎ (64 < count)))
+    → ((r ≡ Err bad_steps) ↔ ((0 < count) × (count ≤ 64) × ((steps ≡ 0) ⊎ (100000000 < steps))))
+    → AreAllowed count steps
 allowed_then {A} {E} count steps r bad_elements bad_steps memory is not_elements not_steps elements steps_so =
     let some_elements : 0 < count = elim (cases_lt 0 count) [
       | inl l ↦ l
@@ -100,7 +104,9 @@ allowed_then {A} {E} count steps r bad_elements bad_steps memory is not_elements
       few_elements = few_elements;
       some = elim (cases_lt 0 steps) [
         | inl l ↦ l
-        | inr none ↦ absurd (not_steps (same_err r memory bad_steps is (steps_so.1 (some_elements, few_elements, inl (omega (arith, none))))))
+        | inr none ↦ absurd
+            (not_steps
+            (same_err r memory bad_steps is (steps_so.1 (some_elements, few_elements, inl (omega (arith, none))))))
       ];
       few = elim (cases_lt 100000000 steps) [
         | inl l ↦ absurd (not_steps (same_err r memory bad_steps is (steps_so.1 (some_elements, few_elements, inr l))))

@@ -4,8 +4,16 @@ use Rattle.std.proofs.lemmas.List.{append-nil}
 use Rattle.id_log.specs.Logs.{Ahead, Hears, IsHeard, MayFollow}
 use Rattle.id_log.specs.Logs.End.{ends}
 
-pub hears_map : (a : Option Ahead) (P Q : List ℕ → Type 0) → ((bytes : List ℕ) → P bytes → Q bytes) → Hears a P → Hears a Q
-hears_map a P Q f h = record { front = h.front; over = h.over; heard = h.heard; holds = λ more follows. f (h.front ++ more) (h.holds more follows) }
+pub hears_map : (a : Option Ahead) (P Q : List ℕ → Type 0) → ((bytes : List ℕ) → P bytes → Q bytes) → Hears a P
+    → Hears a Q
+hears_map a P Q f h =
+    record {
+      front = h.front;
+      over = h.over;
+      heard = h.heard;
+      holds =
+          λ more follows. f (h.front ++ more) (h.holds more follows);
+    }
 
 -- what is so of any bytes
 pub hears_any : (a : Option Ahead) (P : List ℕ → Type 0) → ((bytes : List ℕ) → P bytes) → Hears a P
@@ -27,6 +35,7 @@ hears_some a P h = (h.front ++ [], h.holds [] (ends_here h.over))
 pub hears_all : (bytes : List ℕ) (P : List ℕ → Type 0) → Hears (Some (record { bytes = bytes; end = ends })) P → P bytes
 hears_all bytes P h = by h.over h.heard h.holds
   where
-    by : (over : Bool) → IsHeard (Some (record { bytes = bytes; end = ends })) h.front over → ((more : List ℕ) → MayFollow over more → P (h.front ++ more)) → P bytes
+    by : (over : Bool) → IsHeard (Some (record { bytes = bytes; end = ends })) h.front over
+        → ((more : List ℕ) → MayFollow over more → P (h.front ++ more)) → P bytes
     by true heard holds = subst P (append-nil h.front ∙ heard.0) (holds [] refl)
     by false heard holds = subst P (sym heard.1) (holds heard.0 tt)

@@ -17,7 +17,8 @@ use Rattle.id_core.specs.Observed.{CellValue}
 use Rattle.id_laws.specs.Laws.{IsSound, IsComplete}
 use Rattle.id_print.specs.declared.helds.Held.{Held}
 use Rattle.id_print.specs.declared.helds.Held.TheVariants.{Array, Cell}
-use Rattle.id_print.specs.Names.{AreApartBy, AreHeld, AreSomeHeld, HeldBefore, IsOrderOf, IsPut, OfOneFetch, OfOneThing, WaitBefore, held_lines}
+use Rattle.id_print.specs.Names.{AreApartBy, AreHeld, AreSomeHeld, HeldBefore, IsOrderOf, IsPut, OfOneFetch, OfOneThing}
+use Rattle.id_print.specs.Names.{WaitBefore, held_lines}
 use Rattle.id_engine.proofs.NamesLemmas.{among_map, among_permuted, among_sorted, differ_by, one_by}
 
 -- what is among two lists is among one of them
@@ -60,14 +61,16 @@ no_array x [] h = h
 no_array x (p ∷ ps) (inl e) = absurd cc
 no_array x (p ∷ ps) (inr h) = no_array x ps h
 
-the_shape : (x : Shape) (ss : List Shape) (ps : List CellValue) → Among (Array x) (map Array ss ++ map Cell ps) → Among x ss
+the_shape : (x : Shape) (ss : List Shape) (ps : List CellValue) → Among (Array x) (map Array ss ++ map Cell ps)
+    → Among x ss
 the_shape x ss ps h = at (among_either (Array x) (map Array ss) (map Cell ps) h)
   where
     at : Among (Array x) (map Array ss) ⊎ Among (Array x) (map Cell ps) → Among x ss
     at (inl k) = array_among x ss k
     at (inr k) = absurd (no_array x ps k)
 
-the_cell : (x : CellValue) (ss : List Shape) (ps : List CellValue) → Among (Cell x) (map Array ss ++ map Cell ps) → Among x ps
+the_cell : (x : CellValue) (ss : List Shape) (ps : List CellValue) → Among (Cell x) (map Array ss ++ map Cell ps)
+    → Among x ps
 the_cell x ss ps h = at (among_either (Cell x) (map Array ss) (map Cell ps) h)
   where
     at : Among (Cell x) (map Array ss) ⊎ Among (Cell x) (map Cell ps) → Among x ps
@@ -83,9 +86,11 @@ cells_differ : (ps : List CellValue) → AllDiffer ps → AllDiffer (map Cell ps
 cells_differ [] h = tt
 cells_differ (p ∷ ps) h = (λ k. h.0 (cell_among p ps k), cells_differ ps h.1)
 
-both_differ : {A : Type 0} (xs ys : List A) → AllDiffer xs → AllDiffer ys → ((x : A) → Among x xs → Among x ys → ⊥) → AllDiffer (xs ++ ys)
+both_differ : {A : Type 0} (xs ys : List A) → AllDiffer xs → AllDiffer ys → ((x : A) → Among x xs → Among x ys → ⊥)
+    → AllDiffer (xs ++ ys)
 both_differ [] ys h k apart = k
-both_differ (x ∷ xs) ys h k apart = (λ a. none (among_either x xs ys a), both_differ xs ys h.1 k (λ y b c. apart y (inr b) c))
+both_differ (x ∷ xs) ys h k apart =
+    (λ a. none (among_either x xs ys a), both_differ xs ys h.1 k (λ y b c. apart y (inr b) c))
   where
     none : Among x xs ⊎ Among x ys → ⊥
     none (inl a) = h.0 a
@@ -133,19 +138,24 @@ AreApartBy-held S g number w s = record {
     differ_cells : AllDiffer ps
     differ_cells = differ_by key_of ps cells_once
 
-    one : (h k : Held) → Among h (map Array ss ++ map Cell ps) → Among k (map Array ss ++ map Cell ps) → OfOneThing h k → h ≡ k
-    one (Array x) (Array y) a b e = ap Array (one_by (λ x. x.name) ss s.structures_once x y (the_shape x ss ps a) (the_shape y ss ps b) e)
-    one (Cell x) (Cell y) a b e = ap Cell (one_by key_of ps cells_once x y (the_cell x ss ps a) (the_cell y ss ps b) (λ i. (e.0 i, e.1 i)))
+    one : (h k : Held) → Among h (map Array ss ++ map Cell ps) → Among k (map Array ss ++ map Cell ps) → OfOneThing h k
+        → h ≡ k
+    one (Array x) (Array y) a b e =
+        ap Array (one_by (λ x. x.name) ss s.structures_once x y (the_shape x ss ps a) (the_shape y ss ps b) e)
+    one (Cell x) (Cell y) a b e =
+        ap Cell (one_by key_of ps cells_once x y (the_cell x ss ps a) (the_cell y ss ps b) (λ i. (e.0 i, e.1 i)))
     one (Array x) (Cell y) a b e = absurd e
     one (Cell x) (Array y) a b e = absurd e
 
 -- what a sound run's report says of structures and cells is so
-pub AreSomeHeld-sound : (S : Source) (g : Parts) (number : ℕ → ℕ → ℕ) (w : World) (hs : List Held) → IsSound S g number w
-    → IsOrderOf HeldBefore hs (held_lines (shown.structures g w) (shown.cell_values g w)) → Rises HeldBefore hs → AreSomeHeld S hs
+pub AreSomeHeld-sound : (S : Source) (g : Parts) (number : ℕ → ℕ → ℕ) (w : World) (hs : List Held)
+    → IsSound S g number w → IsOrderOf HeldBefore hs (held_lines (shown.structures g w) (shown.cell_values g w))
+    → Rises HeldBefore hs → AreSomeHeld S hs
 AreSomeHeld-sound S g number w hs s sorted rise =
     let all = held_lines (shown.structures g w) (shown.cell_values g w) in
     record {
-      shapes = λ x h. s.structures x (the_shape x (shown.structures g w) (shown.cell_values g w) (among_sorted all hs (Array x) sorted.same h));
+      shapes = λ x h. s.structures x
+          (the_shape x (shown.structures g w) (shown.cell_values g w) (among_sorted all hs (Array x) sorted.same h));
       puts = λ c h. put_there c (among_image shown.cell_value (shown.cells g w) c
           (the_cell c (shown.structures g w) (shown.cell_values g w) (among_sorted all hs (Cell c) sorted.same h)));
       rise = rise;
@@ -154,7 +164,8 @@ AreSomeHeld-sound S g number w hs s sorted rise =
     put_there : (c : CellValue) → (x : Put) × Among x (shown.cells g w) × (shown.cell_value x ≡ c) → IsPut S c
     put_there c t = (
       t.0.store,
-      subst (λ (d : CellValue). Holds S (fact.Put (record { name = d.name; index = d.index; value = d.value; store = t.0.store }))) t.2
+      subst (λ (d : CellValue). Holds S
+          (fact.Put (record { name = d.name; index = d.index; value = d.value; store = t.0.store }))) t.2
           (s.cells t.0 t.1),
     )
 
@@ -164,7 +175,8 @@ pub AreHeld-complete : (S : Source) (g : Parts) (w : World) (hs : List Held) →
 AreHeld-complete S g w hs some c sorted =
     let all = held_lines (shown.structures g w) (shown.cell_values g w) in
     record {
-      shapes = λ x h. among_permuted all hs (Array x) sorted.same (among_first _ _ _ (among_map Array (shown.structures g w) x (c.structures x h)));
+      shapes = λ x h. among_permuted all hs (Array x) sorted.same
+          (among_first _ _ _ (among_map Array (shown.structures g w) x (c.structures x h)));
       puts = λ x h. among_permuted all hs (Cell (shown.cell_value x)) sorted.same
           (among_second _ (map Array (shown.structures g w)) _ (among_map Cell (shown.cell_values g w) _
           (among_map shown.cell_value (shown.cells g w) x (c.cells x h))));
@@ -172,7 +184,8 @@ AreHeld-complete S g w hs some c sorted =
     }
 
 -- what a sound run shows of fetches that wait is apart
-pub AreApartBy-waiting : (S : Source) (g : Parts) (number : ℕ → ℕ → ℕ) (w : World) → IsSound S g number w → AreApartBy OfOneFetch (shown.waiting g w)
+pub AreApartBy-waiting : (S : Source) (g : Parts) (number : ℕ → ℕ → ℕ) (w : World) → IsSound S g number w
+    → AreApartBy OfOneFetch (shown.waiting g w)
 AreApartBy-waiting S g number w s = record {
   differ = differ_by (λ x. x.fetch) (shown.waiting g w) s.waiting_once;
   one = λ x y h k e. one_by (λ x. x.fetch) (shown.waiting g w) s.waiting_once x y h k e;
@@ -185,7 +198,8 @@ asks_rise (a ∷ []) h = tt
 asks_rise (a ∷ b ∷ ws) h = (inl h.0, asks_rise (b ∷ ws) h.1)
 
 -- what a complete run's report says of fetches that wait is so, and all of it
-pub AreWaiting-complete : (S : Source) (g : Parts) (w : World) (ws : List Ask) → IsComplete S g w → IsOrderOf WaitBefore ws (shown.waiting g w) →
+pub AreWaiting-complete : (S : Source) (g : Parts) (w : World) (ws : List Ask) → IsComplete S g w
+    → IsOrderOf WaitBefore ws (shown.waiting g w) →
     Rises WaitBefore ws → AreWaiting S ws
 AreWaiting-complete S g w ws c sorted rise = record {
   all = λ x h. among_permuted (shown.waiting g w) ws x sorted.same (c.waiting x h);

@@ -19,19 +19,22 @@ use Rattle.id_runs.proofs.RecordsOfRuns.{Recorded, among_events, filter_map_has}
 use Rattle.id_laws.proofs.Validity.ValidCounts.{all_among}
 use Rattle.id_elements.specs.Runs.{HasWent, MovesOn}
 
-went_of : (g : Parts) (p : Tag → Path) (m : Structure → Site) (x : Step) → fault_of g p m x ≡ None → x ≢ Stuck → x ≡ Went
+went_of : (g : Parts) (p : Tag → Path) (m : Structure → Site) (x : Step) → fault_of g p m x ≡ None → x ≢ Stuck
+    → x ≡ Went
 went_of g p m Went none stuck = refl
 went_of g p m (Fault (Operator f t)) none stuck = absurd cc
 went_of g p m (Fault (SecondStore c t u)) none stuck = absurd cc
 went_of g p m Stuck none stuck = absurd (stuck refl)
 
-no_fault : (g : Parts) (p : Tag → Path) (m : Structure → Site) (vs : List EventView) (v : EventView) → faults_of g p m vs ≡ [] → Among v vs
-    → fault_of g p m v.step ≡ None
+no_fault : (g : Parts) (p : Tag → Path) (m : Structure → Site) (vs : List EventView) (v : EventView)
+    → faults_of g p m vs ≡ [] → Among v vs → fault_of g p m v.step ≡ None
 no_fault g p m vs v none among = go (fault_of g p m v.step) refl
   where
     go : (o : Option SourceFault) → fault_of g p m v.step ≡ o → o ≡ None
     go None e = refl
-    go (Some f) e = let here = filter_map_has (λ (u : EventView). fault_of g p m u.step) vs v f among e in absurd (subst (Among f) none here)
+    go (Some f) e =
+        let here =
+        filter_map_has (λ (u : EventView). fault_of g p m u.step) vs v f among e in absurd (subst (Among f) none here)
 
 recorded_in : (w : World) (e : State) (v : EventView) → Among e w.elements → Among v e.events → Recorded w v
 recorded_in w e v a b = let k = at-from_Among e w.elements a in record { element = k.0; state = e; at = k.1; among = b }

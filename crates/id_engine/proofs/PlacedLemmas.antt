@@ -1,5 +1,6 @@
 -- The instructions of a program's graph stand at places of the program, and those lie in its text.
-use Rattle.std.proofs.Common.{◌≡◌, ℕ, zero, suc, ◌+◌, ◌-◌, ◌<◌, ◌≤◌, true, false, List, [], ◌∷◌, ◌++◌, All, length, map, inl, inr}
+use Rattle.std.proofs.Common.{◌≡◌, ℕ, zero, suc, ◌+◌, ◌-◌, ◌<◌, ◌≤◌, true, false, List, [], ◌∷◌, ◌++◌, All, length, map}
+use Rattle.std.proofs.Common.{inl, inr}
 use Rattle.std.proofs.Common.{Some, refl, sym, ap, subst, ◌∙◌, arith}
 use Rattle.std.specs.Prelude.{slice_get}
 use Rattle.std.proofs.lemmas.Bool.{cases_eq}
@@ -9,14 +10,17 @@ use Rattle.id_table.specs.Rows.{add, at, in_top, value_of}
 use Rattle.id_value.specs.declared.Kind.{Kind}
 use Rattle.std.proofs.lemmas.Option.{slice_get-get_or}
 use Rattle.id_table.specs.declared.row.Node.{Node}
-use Rattle.id_table.specs.declared.row.Node.TheVariants.{Head, Param, Literal, Name, Unary, Binary, Split, If, Enter, Arg, Call, Block, Binding, Def, Program}
-use Rattle.id_table.specs.declared.row.Node.TheVariants.{Start, LoopHead, Variable, Entries, Switches, Turn, NextUse, Next, Body, Reset, Loop}
+use Rattle.id_table.specs.declared.row.Node.TheVariants.{Head, Param, Literal, Name, Unary, Binary, Split, If, Enter}
+use Rattle.id_table.specs.declared.row.Node.TheVariants.{Arg, Call, Block, Binding, Def, Program}
+use Rattle.id_table.specs.declared.row.Node.TheVariants.{Start, LoopHead, Variable, Entries, Switches, Turn, NextUse}
+use Rattle.id_table.specs.declared.row.Node.TheVariants.{Next, Body, Reset, Loop}
 use Rattle.id_table.specs.declared.row.Node.TheVariants.{Array as ArrayRow, Fetch, Address, Store}
 use Rattle.id_table.specs.declared.row.Node.TheVariants.{Bounds, Carried, Within, Count, Index, Span}
 use Rattle.id_table.specs.Stores.{IsStoreOf}
 use Rattle.id_table.specs.Tables.{is_carried, is_thing, is_variable}
 use Rattle.id_table.specs.Calls.{IsArgIn, IsCallOf}
-use Rattle.id_table.specs.Loops.{AreBounds, Begins, IsLoopOf, IsTurn, behind_count, index_row, plainly, right, with_bounds}
+use Rattle.id_table.specs.Loops.{AreBounds, Begins, IsLoopOf, IsTurn, behind_count, index_row, plainly, right}
+use Rattle.id_table.specs.Loops.{with_bounds}
 use Rattle.id_table.specs.Regions.{IsIfOf}
 use Rattle.id_table.specs.Turns.{IsDefOf}
 use Rattle.id_check.specs.declared.checked.Checked.{Checked}
@@ -42,36 +46,44 @@ one_place : (a : Piece) (k : ℕ) (f : Form) (e : ℕ) → slice_get (a ∷ []) 
 one_place a zero f e h = let is : a ≡ piece f e = cc in sym (ap (λ (p : Piece). p.place) is)
 one_place a (suc k) f e h = absurd cc
 
-two_place : (a b : Piece) (k : ℕ) (f : Form) (e : ℕ) → b.place ≡ a.place → slice_get (a ∷ b ∷ []) k ≡ Some (piece f e) → e ≡ a.place
+two_place : (a b : Piece) (k : ℕ) (f : Form) (e : ℕ) → b.place ≡ a.place → slice_get (a ∷ b ∷ []) k ≡ Some (piece f e)
+    → e ≡ a.place
 two_place a b zero f e same h = let is : a ≡ piece f e = cc in sym (ap (λ (p : Piece). p.place) is)
 two_place a b (suc k) f e same h = one_place b k f e h ∙ same
 
-three_place : (a b c : Piece) (k : ℕ) (f : Form) (e : ℕ) → b.place ≡ a.place → c.place ≡ a.place → slice_get (a ∷ b ∷ c ∷ []) k ≡ Some (piece f e) → e ≡ a.place
+three_place : (a b c : Piece) (k : ℕ) (f : Form) (e : ℕ) → b.place ≡ a.place → c.place ≡ a.place
+    → slice_get (a ∷ b ∷ c ∷ []) k ≡ Some (piece f e) → e ≡ a.place
 three_place a b c zero f e same also h = let is : a ≡ piece f e = cc in sym (ap (λ (p : Piece). p.place) is)
 three_place a b c (suc k) f e same also h = two_place b c k f e (also ∙ sym same) h ∙ same
 
-five_place : (a b c d g : Piece) (k : ℕ) (f : Form) (e : ℕ) → b.place ≡ a.place → c.place ≡ a.place → d.place ≡ a.place → g.place ≡ a.place
-    → slice_get (a ∷ b ∷ c ∷ d ∷ g ∷ []) k ≡ Some (piece f e) → e ≡ a.place
-five_place a b c d g zero f e second third fourth last h = let is : a ≡ piece f e = cc in sym (ap (λ (p : Piece). p.place) is)
-five_place a b c d g (suc zero) f e second third fourth last h = let is : b ≡ piece f e = cc in sym (ap (λ (p : Piece). p.place) is) ∙ second
-five_place a b c d g (suc (suc k)) f e second third fourth last h = three_place c d g k f e (fourth ∙ sym third) (last ∙ sym third) h ∙ third
+five_place : (a b c d g : Piece) (k : ℕ) (f : Form) (e : ℕ) → b.place ≡ a.place → c.place ≡ a.place → d.place ≡ a.place
+    → g.place ≡ a.place → slice_get (a ∷ b ∷ c ∷ d ∷ g ∷ []) k ≡ Some (piece f e) → e ≡ a.place
+five_place a b c d g zero f e second third fourth last h =
+    let is : a ≡ piece f e = cc in sym (ap (λ (p : Piece). p.place) is)
+five_place a b c d g (suc zero) f e second third fourth last h =
+    let is : b ≡ piece f e = cc in sym (ap (λ (p : Piece). p.place) is) ∙ second
+five_place a b c d g (suc (suc k)) f e second third fourth last h =
+    three_place c d g k f e (fourth ∙ sym third) (last ∙ sym third) h ∙ third
 
 the_piece : (a c : Piece) → Some a ≡ Some c → a ≡ c
 the_piece a c h = cc
 
 -- a piece for one of some binders has the place of all, and so has a `send` to one of some entries
-for_each_place : (P : Checked) (o : PortKind → Op) (q : ℕ) (bs : List ℕ) (k : ℕ) (f : Form) (e : ℕ) → slice_get (for_each P o q bs) k ≡ Some (piece f e) → e ≡ q
+for_each_place : (P : Checked) (o : PortKind → Op) (q : ℕ) (bs : List ℕ) (k : ℕ) (f : Form) (e : ℕ)
+    → slice_get (for_each P o q bs) k ≡ Some (piece f e) → e ≡ q
 for_each_place P o q [] k f e h = absurd cc
 for_each_place P o q (b ∷ bs) zero f e h = sym (ap (λ (p : Piece). p.place) (the_piece _ _ h))
 for_each_place P o q (b ∷ bs) (suc k) f e h = for_each_place P o q bs k f e h
 
-sends_place : (P : Checked) (q : ℕ) (es : List Entry) (k : ℕ) (f : Form) (e : ℕ) → slice_get (map (send_to P q) es) k ≡ Some (piece f e) → e ≡ q
+sends_place : (P : Checked) (q : ℕ) (es : List Entry) (k : ℕ) (f : Form) (e : ℕ)
+    → slice_get (map (send_to P q) es) k ≡ Some (piece f e) → e ≡ q
 sends_place P q [] k f e h = absurd cc
 sends_place P q (y ∷ ys) zero f e h = sym (ap (λ (p : Piece). p.place) (the_piece _ _ h))
 sends_place P q (y ∷ ys) (suc k) f e h = sends_place P q ys k f e h
 
 -- a piece of a list has a place that its first has, where the others have it
-all_place : (a : Piece) (ps : List Piece) → ((k : ℕ) (f : Form) (e : ℕ) → slice_get ps k ≡ Some (piece f e) → e ≡ a.place)
+all_place : (a : Piece) (ps : List Piece)
+    → ((k : ℕ) (f : Form) (e : ℕ) → slice_get ps k ≡ Some (piece f e) → e ≡ a.place)
     → (k : ℕ) (f : Form) (e : ℕ) → slice_get (a ∷ ps) k ≡ Some (piece f e) → e ≡ a.place
 all_place a ps rest zero f e h = sym (ap (λ (p : Piece). p.place) (the_piece _ _ h))
 all_place a ps rest (suc k) f e h = rest k f e h
@@ -116,7 +128,8 @@ module _ {size : ℕ} {P : Checked} (h : IsPlacedWithin size P) where
   split_within n t l is =
       let c = (table_of P).has_if n t l is in
       let d : IsIfOf (rows P) c.0 n = c.1 in
-      subst (λ (q : ℕ). q ≤ size) (sym ((table_of P).split_of c.0 n d).place) (thing_within c.0 d.within (ap is_thing d.node))
+      subst (λ (q : ℕ). q ≤ size) (sym ((table_of P).split_of c.0 n d).place)
+      (thing_within c.0 d.within (ap is_thing d.node))
 
   -- a call's `Enter` and its arguments have its place
   call_within : (n e : ℕ) → IsCallOf (rows P) n e → place P n ≤ size
@@ -137,7 +150,8 @@ module _ {size : ℕ} {P : Checked} (h : IsPlacedWithin size P) where
   address_within n t i l is =
       let c = (table_of P).has_store n t i l is in
       let d : IsStoreOf (rows P) c.0 n = c.1 in
-      subst (λ (q : ℕ). q ≤ size) (sym ((table_of P).address_of c.0 n d).place) (thing_within c.0 d.within (ap is_thing d.node))
+      subst (λ (q : ℕ). q ≤ size) (sym ((table_of P).address_of c.0 n d).place)
+      (thing_within c.0 d.within (ap is_thing d.node))
 
   -- the `Turn` is behind the switches, and behind what counts where a loop has an index; the bounds of one stand before
   turns_behind : {w t c : ℕ} → IsTurn (rows P) w t c → w < t
@@ -192,7 +206,8 @@ module _ {size : ℕ} {P : Checked} (h : IsPlacedWithin size P) where
   turn_within n l is =
       let c = (table_of P).turn_of n l is in
       let d = (table_of P).loop_is c.0 (block P n) c.1 in
-      marker_within n c.0 d.turn (loop_within c.0 (block P n) c.1) c.2 ((d.place).begins d.turn (omega (arith, turns_behind (d.body_is).turns)) (omega arith))
+      marker_within n c.0 d.turn (loop_within c.0 (block P n) c.1) c.2
+      ((d.place).begins d.turn (omega (arith, turns_behind (d.body_is).turns)) (omega arith))
 
   -- those of a loop with an index, but for the index's entry, which has the place of the index
   bounds_within : (n a b : ℕ) → n < length (rows P) → node P n ≡ Bounds a b → place P n ≤ size
@@ -210,7 +225,8 @@ module _ {size : ℕ} {P : Checked} (h : IsPlacedWithin size P) where
       let c = (table_of P).carried_of n l (ap is_carried is) in
       let h = block P n in
       let d = (table_of P).loop_is c.0 h c.1 in
-      let inner = (table_of P).block n (not_last P (table_of P) n l (λ f. (let bad : Carried k ≡ Program = sym is ∙ f in cc))) in
+      let inner =
+      (table_of P).block n (not_last P (table_of P) n l (λ f. (let bad : Carried k ≡ Program = sym is ∙ f in cc))) in
       let three = c.2 in
       let whole = loop_within c.0 h c.1 in
       let there = index_there (d.body_is).turns three in
@@ -218,12 +234,15 @@ module _ {size : ℕ} {P : Checked} (h : IsPlacedWithin size P) where
       index_within (index_row (c.1).switches) there.0
       (omega (arith, there.2, (d.body_is).low, (d.last_is).low, (d.last_is).ends, (c.1).within)) there.1 in
       elim (cases_eq n h) [
-        | inl same ↦ absurd (let bad : LoopHead (h - 1) ≡ Carried k = sym (d.before_test).head ∙ ap (node P) (sym same) ∙ is in cc)
+        | inl same ↦ absurd (let bad : LoopHead (h - 1) ≡ Carried k =
+            sym (d.before_test).head ∙ ap (node P) (sym same) ∙ is in cc)
         | inr other ↦ elim (cases_eq n (h + 1)) [
-          | inl first ↦ marker_within n (index_row (c.1).switches) (h + 1) index (sym first) ((d.place_carried).index three)
+          | inl first ↦ marker_within n (index_row (c.1).switches) (h + 1) index (sym first)
+              ((d.place_carried).index three)
           | inr behind ↦ elim (cases_eq n (h + 2)) [
             | inl second ↦ marker_within n c.0 (h + 2) whole (sym second) ((d.place_carried).bound three)
-            | inr far ↦ marker_within n c.0 (h + 3) whole (omega (arith, other, behind, far, inner.0, c.3)) ((d.place_carried).flag three)
+            | inr far ↦ marker_within n c.0 (h + 3) whole (omega (arith, other, behind, far, inner.0, c.3))
+                ((d.place_carried).flag three)
           ]
         ]
       ]
@@ -233,7 +252,8 @@ module _ {size : ℕ} {P : Checked} (h : IsPlacedWithin size P) where
       let c = (table_of P).count_of n l is in
       let d = (table_of P).loop_is c.0 (block P n) c.1 in
       let there = turn_behind_count (d.body_is).turns c.2 in
-      marker_within n c.0 n (loop_within c.0 (block P n) c.1) refl ((d.place).begins n (omega (arith, c.3)) (omega (arith, c.3, there)))
+      marker_within n c.0 n (loop_within c.0 (block P n) c.1) refl
+      ((d.place).begins n (omega (arith, c.3)) (omega (arith, c.3, there)))
 
   reset_within : (n v : ℕ) → n < length (rows P) → node P n ≡ Reset v → place P n ≤ size
   reset_within n v l is =
@@ -266,17 +286,25 @@ module _ {size : ℕ} {P : Checked} (h : IsPlacedWithin size P) where
       go (Name y) is at = absurd cc
       go (Unary o a) is at = own (one_place _ k f e at) (ap is_thing is)
       go (Binary o a b) is at = own (one_place _ k f e at) (ap is_thing is)
-      go (Split t) is at = its (all_place _ _ (for_each_place P Switch (place P n) (imports_of P n)) k f e at) (split_within n t m.within is)
+      go (Split t) is at =
+          its (all_place _ _ (for_each_place P Switch (place P n) (imports_of P n)) k f e at)
+          (split_within n t m.within is)
       go (If s x y) is at = own (one_place _ k f e at) (ap is_thing is)
       go (Enter y) is at = its (one_place _ k f e at) (enter_within n y m.within is)
       go (Arg s i v) is at = its (one_place _ k f e at) (arg_within n s i v m.within is)
       go (Call s c) is at = own (one_place _ k f e at) (ap is_thing is)
-      go Start is at = its (all_place _ _ (sends_place P (place P n) (loop_entries P (n + 1))) k f e at) (start_within n m.within is)
+      go Start is at =
+          its (all_place _ _ (sends_place P (place P n) (loop_entries P (n + 1))) k f e at) (start_within n m.within is)
       go (LoopHead s) is at = its (two_place _ _ k f e refl at) (loop_head_within n s m.within is)
       go Variable is at = its (one_place _ k f e at) (variable_within n m.within is)
-      go Entries is at = its (for_each_place P Merge (place P n) (imports_of P (block P n)) k f e at) (entries_within n m.within is)
-      go (Switches t) is at = its (all_place _ _ (for_each_place P Switch (place P n) (imports_of P n)) k f e at) (switches_within n t m.within is)
-      go Turn is at = its (all_place _ _ (for_each_place P NextOp (place P n) (carried P (block P n) ++ imports_of P (block P n))) k f e at) (turn_within n m.within is)
+      go Entries is at =
+          its (for_each_place P Merge (place P n) (imports_of P (block P n)) k f e at) (entries_within n m.within is)
+      go (Switches t) is at =
+          its (all_place _ _ (for_each_place P Switch (place P n) (imports_of P n)) k f e at)
+          (switches_within n t m.within is)
+      go Turn is at =
+          its (all_place _ _ (for_each_place P NextOp (place P n) (carried P (block P n) ++ imports_of P (block P n))) k
+          f e at) (turn_within n m.within is)
       go (Bounds a b) is at = its (two_place _ _ k f e refl at) (bounds_within n a b m.within is)
       go (Carried j) is at = its (one_place _ k f e at) (carried_within n j m.within is)
       go (Within j) is at = absurd cc
@@ -296,7 +324,8 @@ module _ {size : ℕ} {P : Checked} (h : IsPlacedWithin size P) where
       go (Binding y a) is at = own (one_place _ k f e at) (ap is_thing is)
       go (Def y x j b) is at = absurd cc
       go Program is at =
-          subst (λ (q : ℕ). q ≤ size) (sym (one_place _ k f e at)) (thing_within P.main (P.is_main).within (main_thing (node P P.main) (P.is_main).node))
+          subst (λ (q : ℕ). q ≤ size) (sym (one_place _ k f e at))
+          (thing_within P.main (P.is_main).within (main_thing (node P P.main) (P.is_main).node))
 
   one_there : (is : List Instr) (k : ℕ) (i j : Instr) → slice_get is k ≡ Some i → slice_get is k ≡ Some j → i ≡ j
   one_there is k i j a b = let e : Some i ≡ Some j = sym a ∙ b in cc
@@ -309,4 +338,5 @@ module _ {size : ℕ} {P : Checked} (h : IsPlacedWithin size P) where
       let x = n.only k _ at in
       let made = n.made x.row x.part x.form x.place x.makes in
       let same = one_there g.instrs k _ _ (subst (λ (j : ℕ). slice_get g.instrs j ≡ Some made.instr) x.is made.at) at in
-      subst (λ (i : Instr). i.place ≤ size) same (subst (λ (q : ℕ). q ≤ size) (sym made.place) (made_within x.row x.part x.form x.place x.makes)))
+      subst (λ (i : Instr). i.place ≤ size) same
+      (subst (λ (q : ℕ). q ≤ size) (sym made.place) (made_within x.row x.part x.form x.place x.makes)))

@@ -16,12 +16,19 @@ no_more [] h = refl
 no_more (x ∷ xs) h = absurd cc
 
 -- the merged events of all elements, where the trace is asked for
-pub IsTraceOf-asked : {E : Type 0} (t : Bool) (w : World) (r : Result (List EventView) E) → t ≡ true → IfOk r (AreMergedOf w.elements) → IfOk r (IsTraceOf t w)
+pub IsTraceOf-asked : {E : Type 0} (t : Bool) (w : World) (r : Result (List EventView) E) → t ≡ true
+    → IfOk r (AreMergedOf w.elements) → IfOk r (IsTraceOf t w)
 IsTraceOf-asked t w (Err e) holds merged = tt
-IsTraceOf-asked t w (Ok m) holds merged = record { asked = λ h. merged; unasked = λ off. absurd (false≢true (sym off ∙ holds)) }
+IsTraceOf-asked t w (Ok m) holds merged =
+    record { asked = λ h. merged; unasked = λ off. absurd (false≢true (sym off ∙ holds)) }
 
 -- and the events of no element, where it is not
 pub IsTraceOf-unasked : {E : Type 0} (t : Bool) (w : World) (r : Result (List EventView) E) → t ≡ false
     → IfOk r (λ m. IsPermutation (flat_map (λ (e : ElementView). e.state.events) []) m) → IfOk r (IsTraceOf t w)
 IsTraceOf-unasked t w (Err e) off all = tt
-IsTraceOf-unasked t w (Ok m) off all = record { asked = λ holds. absurd (false≢true (sym off ∙ holds)); unasked = λ h. no_more m (length_permutation [] m all) }
+IsTraceOf-unasked t w (Ok m) off all =
+    record {
+      asked = λ holds. absurd (false≢true (sym off ∙ holds));
+      unasked =
+          λ h. no_more m (length_permutation [] m all);
+    }

@@ -22,7 +22,8 @@ use Rattle.id_source.specs.Links.{AreNone, Gains, Leads, width}
 pub chained-none : (c : Cells) → items c ≡ [] → AreNone c.chains 262144 → AreChained c
 chained-none c e n =
     let no : (i : ℕ) → i < length (items c) → ⊥ =
-    λ i l. (let P : List RowFact → Type 0 = λ fs. i < length fs in let k : i < 0 = subst P e l in absurd (omega arith)) in
+    λ i l. (let P : List RowFact → Type 0 = λ fs. i < length fs in let k : i < 0 = subst P e l in
+    absurd (omega arith)) in
     record {
       wide = n.wide;
       within = λ k i h. absurd (n.none k i h);
@@ -36,7 +37,8 @@ record Holds (b c : Cells) (f : RowFact) : Type 0 where
   pub kept : (k i : ℕ) → Leads b.chains k i → Leads c.chains k i
   pub only : (k i : ℕ) → Leads c.chains k i → Leads b.chains k i ⊎ (i ≡ length (items b))
   pub there : width b.chains ≡ 262144 → Leads c.chains (chain_of f) (length (items b))
-  pub named : (s : ℕ) → width b.chains ≡ 262144 → name_of f ≡ Some s → Leads c.chains (chain_by Named s (pos 0)) (length (items b))
+  pub named : (s : ℕ) → width b.chains ≡ 262144 → name_of f ≡ Some s
+      → Leads c.chains (chain_by Named s (pos 0)) (length (items b))
 
 lt-or : (i n : ℕ) → i < suc n → (i < n) ⊎ (i ≡ n)
 lt-or i n l = elim (eq-or-lt_of_le {n = i} {m = n} (omega arith)) [ inl q ↦ inr q | inr k ↦ inl k ]
@@ -47,7 +49,8 @@ chained-more b c f e h a =
     let long : length (items c) ≡ suc n = ap (λ fs. length fs) e ∙ length-append (items b) (f ∷ []) ∙ omega arith in
     let old : (i : ℕ) → i < n → fact_at (items c) i ≡ fact_at (items b) i =
     λ i l. ap (λ fs. fact_at fs i) e ∙ get_or-append (items b) (f ∷ []) (On Outermost 0) i l in
-    let new : fact_at (items c) n ≡ f = ap (λ fs. fact_at fs n) e ∙ get_or-append_seam (items b) f [] (On Outermost 0) in
+    let new : fact_at (items c) n ≡ f =
+    ap (λ fs. fact_at fs n) e ∙ get_or-append_seam (items b) f [] (On Outermost 0) in
     let at : (i : ℕ) → i < length (items c) → (i < n) ⊎ (i ≡ n) =
     λ i l. elim (lt-or i n (omega arith)) [ inl k ↦ inl k | inr q ↦ inr q ] in
     record {
@@ -57,7 +60,8 @@ chained-more b c f e h a =
         | inr q ↦ omega arith
       ];
       there = λ i l. elim (at i l) [
-        | inl k ↦ (let P : RowFact → Type 0 = λ g. Leads c.chains (chain_of g) i in subst P (sym (old i k)) (h.kept _ i (a.there i k)))
+        | inl k ↦ (let P : RowFact → Type 0 = λ g. Leads c.chains (chain_of g) i in
+            subst P (sym (old i k)) (h.kept _ i (a.there i k)))
         | inr q ↦ (let P : RowFact → Type 0 = λ g. Leads c.chains (chain_of g) n in
             let Q : ℕ → Type 0 = λ j. Leads c.chains (chain_of (fact_at (items c) j)) j in
             subst Q (sym q) (subst P (sym new) (h.there a.wide)))
@@ -65,7 +69,8 @@ chained-more b c f e h a =
       named = λ i s l m. elim (at i l) [
         | inl k ↦ h.kept _ i (a.named i s k (ap (λ g. name_of g) (sym (old i k)) ∙ m))
         | inr q ↦ (let Q : ℕ → Type 0 = λ j. Leads c.chains (chain_by Named s (pos 0)) j in
-            subst Q (sym q) (h.named s a.wide (ap (λ g. name_of g) (sym new) ∙ ap (λ j. name_of (fact_at (items c) j)) (sym q) ∙ m)))
+            subst Q (sym q)
+            (h.named s a.wide (ap (λ g. name_of g) (sym new) ∙ ap (λ j. name_of (fact_at (items c) j)) (sym q) ∙ m)))
       ];
     }
 
@@ -95,8 +100,9 @@ adds-plain b c f e p g = record {
 }
 
 -- one that gives a structure hangs in that one's, too
-pub adds-named : (b : Cells) (F : Edges) (c : Cells) (f : RowFact) (s : ℕ) → name_of f ≡ Some s → items c ≡ items b ++ f ∷ []
-    → Gains b.chains F (chain_of f) (length (items b) ∷ []) → Gains F c.chains (chain_by Named s (pos 0)) (length (items b) ∷ [])
+pub adds-named : (b : Cells) (F : Edges) (c : Cells) (f : RowFact) (s : ℕ) → name_of f ≡ Some s
+    → items c ≡ items b ++ f ∷ [] → Gains b.chains F (chain_of f) (length (items b) ∷ [])
+    → Gains F c.chains (chain_by Named s (pos 0)) (length (items b) ∷ [])
     → AddsFacts b c (f ∷ [])
 adds-named b F c f s e p g h = record {
   items = p;
@@ -111,21 +117,22 @@ adds-named b F c f s e p g h = record {
     named = λ t w m. (
         let q : s ≡ t = cc in
         let P : ℕ → Type 0 = λ x. Leads c.chains (chain_by Named x (pos 0)) (length (items b)) in
-        subst P q (h.added _ (let u = g.wide in let l = chain-low (sort_mark Named + s % 262144 * 40503 + index_mark (pos 0) * 162013) in omega arith)
+        subst P q (h.added _ (let u = g.wide in let l =
+        chain-low (sort_mark Named + s % 262144 * 40503 + index_mark (pos 0) * 162013) in omega arith)
         (inl refl)));
   };
 }
 
 -- the same, of the chain and the number as they are had
-pub adds-plain-at : (b c : Cells) (f : RowFact) (k n : ℕ) → k ≡ chain_of f → n ≡ length (items b) → name_of f ≡ None → items c ≡ items b ++ f ∷ []
-    → Gains b.chains c.chains k (n ∷ []) → AddsFacts b c (f ∷ [])
+pub adds-plain-at : (b c : Cells) (f : RowFact) (k n : ℕ) → k ≡ chain_of f → n ≡ length (items b) → name_of f ≡ None
+    → items c ≡ items b ++ f ∷ [] → Gains b.chains c.chains k (n ∷ []) → AddsFacts b c (f ∷ [])
 adds-plain-at b c f k n q r e p g =
     let P : ℕ → Type 0 = λ m. Gains b.chains c.chains m (n ∷ []) in
     let Q : ℕ → Type 0 = λ m. Gains b.chains c.chains (chain_of f) (m ∷ []) in
     adds-plain b c f e p (subst Q r (subst P q g))
 
-pub adds-named-at : (b : Cells) (F : Edges) (c : Cells) (f : RowFact) (s k h n : ℕ) → k ≡ chain_of f → h ≡ chain_by Named s (pos 0)
-    → n ≡ length (items b) → name_of f ≡ Some s → items c ≡ items b ++ f ∷ []
+pub adds-named-at : (b : Cells) (F : Edges) (c : Cells) (f : RowFact) (s k h n : ℕ) → k ≡ chain_of f
+    → h ≡ chain_by Named s (pos 0) → n ≡ length (items b) → name_of f ≡ Some s → items c ≡ items b ++ f ∷ []
     → Gains b.chains F k (n ∷ []) → Gains F c.chains h (n ∷ []) → AddsFacts b c (f ∷ [])
 adds-named-at b F c f s k h n q w r e p g i =
     let P : ℕ → Type 0 = λ m. Gains b.chains F m (n ∷ []) in

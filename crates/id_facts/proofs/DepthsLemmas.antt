@@ -37,7 +37,8 @@ depth-same fs b (suc k) (suc j) (Below i n) l m =
     ap (λ x. x + 1) (depth-same fs b k j p (omega arith) (omega arith))
 
 -- one more than that of the path of its spot
-pub depth-suc : (fs : List RowFact) → AreBefore fs → (i k : ℕ) → depth_at fs (Below i k) ≡ depth_at fs (path_of (fact_at fs i)) + 1
+pub depth-suc : (fs : List RowFact) → AreBefore fs → (i k : ℕ)
+    → depth_at fs (Below i k) ≡ depth_at fs (path_of (fact_at fs i)) + 1
 depth-suc fs b i k =
     let p = path_of (fact_at fs i) in
     let w = fits i p (fact-before fs b i) in
@@ -61,9 +62,11 @@ depth-within : (fs : List RowFact) (n : ℕ) (ds : List ℕ) → AreBefore fs �
 depth-within fs n ds b d Outermost h = refl
 depth-within fs n ds b d (Below i k) h = ap (λ x. x + 1) (d.depths i h) ∙ sym (depth-suc fs b i k)
 
-past : (fs : List RowFact) (ds : List ℕ) (i k : ℕ) → AreBefore fs → length fs ≤ i → length ds ≤ i → depth_by ds (Below i k) ≡ depth_at fs (Below i k)
+past : (fs : List RowFact) (ds : List ℕ) (i k : ℕ) → AreBefore fs → length fs ≤ i → length ds ≤ i
+    → depth_by ds (Below i k) ≡ depth_at fs (Below i k)
 past fs ds i k b l m =
-    ap (λ x. x + 1) (get_or_past ds i 0 m) ∙ sym (depth-suc fs b i k ∙ ap (λ f. depth_at fs (path_of f) + 1) (get_or_past fs i (On Outermost 0) l))
+    ap (λ x. x + 1) (get_or_past ds i 0 m)
+    ∙ sym (depth-suc fs b i k ∙ ap (λ f. depth_at fs (path_of f) + 1) (get_or_past fs i (On Outermost 0) l))
 
 depth-tree : (fs : List RowFact) (ds : List ℕ) → IsTree fs ds → (q : Trail) → depth_by ds q ≡ depth_at fs q
 depth-tree fs ds t Outermost = refl
@@ -72,7 +75,8 @@ depth-tree fs ds t (Below i k) = elim (cases_lt i (length fs)) [
   | inr l ↦ past fs ds i k t.before l (let c = t.depths.count in omega (arith, c, l))
 ]
 
-pub depth-known : (fs : List RowFact) (ds es : List ℕ) → IsTree fs ds → es ≡ ds → (q : Trail) (r : ℕ) → r ≡ depth_by es q → r ≡ depth_at fs q
+pub depth-known : (fs : List RowFact) (ds es : List ℕ) → IsTree fs ds → es ≡ ds → (q : Trail) (r : ℕ)
+    → r ≡ depth_by es q → r ≡ depth_at fs q
 depth-known fs ds es t e q r h = h ∙ ap (λ xs. depth_by xs q) e ∙ depth-tree fs ds t q
 
 -- ---- one fact more
@@ -89,10 +93,11 @@ no-depths fs = record { count = refl; small = λ i l. absurd (omega arith); dept
 pub all-depths : (fs : List RowFact) (n m : ℕ) (ds : List ℕ) → AreDepths fs n ds → n ≡ m → AreDepths fs m ds
 all-depths fs n m ds d e = subst (λ k. AreDepths fs k ds) e d
 
-pub depths-more : (fs : List RowFact) (n m : ℕ) (ds es : List ℕ) (d : ℕ) (q : Trail) → AreBefore fs → AreDepths fs n ds → q ≡ path_of (fact_at fs n)
-    → d ≡ depth_by ds q → es ≡ ds ++ d ∷ [] → m ≡ n + 1 → AreDepths fs m es
+pub depths-more : (fs : List RowFact) (n m : ℕ) (ds es : List ℕ) (d : ℕ) (q : Trail) → AreBefore fs → AreDepths fs n ds
+    → q ≡ path_of (fact_at fs n) → d ≡ depth_by ds q → es ≡ ds ++ d ∷ [] → m ≡ n + 1 → AreDepths fs m es
 depths-more fs n m ds es d q b h e f g k =
-    let F : ℕ → List ℕ → Type 0 = λ x xs. AreDepths fs x xs in subst (λ x. F x es) (sym k) (subst (λ xs. F (n + 1) xs) (sym g) more)
+    let F : ℕ → List ℕ → Type 0 =
+    λ x xs. AreDepths fs x xs in subst (λ x. F x es) (sym k) (subst (λ xs. F (n + 1) xs) (sym g) more)
   where
     p : Trail
     p = path_of (fact_at fs n)

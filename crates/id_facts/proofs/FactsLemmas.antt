@@ -1,5 +1,6 @@
 -- Facts by their numbers.
-use Rattle.std.proofs.Common.{◌≡◌, ℕ, zero, suc, ◌≤◌, ◌<◌, ◌&&◌, Bool, true, false, List, [], ◌∷◌, ◌++◌, length, inl, inr, refl, sym, subst, arith}
+use Rattle.std.proofs.Common.{◌≡◌, ℕ, zero, suc, ◌≤◌, ◌<◌, ◌&&◌, Bool, true, false, List, [], ◌∷◌, ◌++◌, length, inl}
+use Rattle.std.proofs.Common.{inr, refl, sym, subst, arith}
 use Rattle.std.proofs.lemmas.Bool.{cases_lt, ltb-true}
 use Rattle.id_value.specs.List.{Among}
 use Rattle.id_facts.specs.declared.facts.RowFact.{RowFact}
@@ -41,7 +42,8 @@ fact-inside : (n : ℕ) (f : RowFact) → is_inside n f ≡ true → Inside n (p
 fact-inside n (On p m) h = path-inside n p h
 fact-inside n (Has p m v) h = path-inside n p (left-true (is_path_inside n p) (is_value_inside n v) h)
 fact-inside n (Shape s lo hi) h = tt
-fact-inside n (Put p m s i v) h = path-inside n p (left-true (is_path_inside n p) _ (left-true _ (is_value_inside n v) h))
+fact-inside n (Put p m s i v) h =
+    path-inside n p (left-true (is_path_inside n p) _ (left-true _ (is_value_inside n v) h))
 fact-inside n (Ask p m s i) h = path-inside n p (left-true (is_path_inside n p) _ h)
 
 past-at : (es : List RowFact) (i : ℕ) → length es ≤ i → fact_at es i ≡ On Outermost 0

@@ -1,5 +1,6 @@
 -- What is learnt: facts behind those that are there, each once.
-use Rattle.std.proofs.Common.{◌≡◌, ◌⊎◌, inl, inr, ℕ, suc, ◌+◌, ◌≤◌, ◌<◌, ◌&&◌, nat_lt, nat_eq, not, ℤ, Bool as Truth, true, false}
+use Rattle.std.proofs.Common.{◌≡◌, ◌⊎◌, inl, inr, ℕ, suc, ◌+◌, ◌≤◌, ◌<◌, ◌&&◌, nat_lt, nat_eq, not, ℤ, Bool as Truth}
+use Rattle.std.proofs.Common.{true, false}
 use Rattle.std.proofs.Common.{List, [], ◌∷◌, ◌++◌, length, if◌then◌else◌, refl, ap, sym, ◌∙◌, subst, arith}
 use Rattle.std.specs.Prelude.{pos, ◌*◌, ◌%◌}
 use Rattle.std.proofs.Math.Nat.{mod-lt}
@@ -54,9 +55,11 @@ value-itself (Name i) = number-itself i
 pub fact-itself : (f : RowFact) → same_fact f f ≡ true
 fact-itself (On p n) = on-is p n
 fact-itself (Has p n v) =
-    and_from (same_trail p p && nat_eq n n) (same_value v v) (and_from (same_trail p p) (nat_eq n n) (trail-itself p) (number-itself n)) (value-itself v)
+    and_from (same_trail p p && nat_eq n n) (same_value v v)
+    (and_from (same_trail p p) (nat_eq n n) (trail-itself p) (number-itself n)) (value-itself v)
 fact-itself (Shape s lo hi) =
-    and_from (nat_eq s s && int_eq lo lo) (int_eq hi hi) (and_from (nat_eq s s) (int_eq lo lo) (number-itself s) (int-itself lo)) (int-itself hi)
+    and_from (nat_eq s s && int_eq lo lo) (int_eq hi hi)
+    (and_from (nat_eq s s) (int_eq lo lo) (number-itself s) (int-itself lo)) (int-itself hi)
 fact-itself (Put p n s i v) =
     let a = and_from (same_trail p p) (nat_eq n n) (trail-itself p) (number-itself n) in
     let b = and_from (same_trail p p && nat_eq n n) (nat_eq s s) a (number-itself s) in
@@ -101,7 +104,8 @@ within-more n m (Put p r s i v) l h =
     let a = both (is_path_inside n p && nat_lt s n) (is_value_inside n v) h in
     let b = both (is_path_inside n p) (nat_lt s n) a.0 in
     and_from (is_path_inside m p && nat_lt s m) (is_value_inside m v)
-    (and_from (is_path_inside m p) (nat_lt s m) (path-more n m p l b.0) (number-more n m s l b.1)) (value-more n m v l a.1)
+    (and_from (is_path_inside m p) (nat_lt s m) (path-more n m p l b.0) (number-more n m s l b.1))
+    (value-more n m v l a.1)
 within-more n m (Ask p r s i) l h =
     let b = both (is_path_inside n p) (nat_lt s n) h in
     and_from (is_path_inside m p) (nat_lt s m) (path-more n m p l b.0) (number-more n m s l b.1)
@@ -120,7 +124,8 @@ inside-path n (On p r) h = there-path n p h
 inside-path n (Has p r v) h = there-path n p (both (is_path_inside n p) (is_value_inside n v) h).0
 inside-path n (Shape s lo hi) h = tt
 inside-path n (Put p r s i v) h =
-    there-path n p (both (is_path_inside n p) (nat_lt s n) (both (is_path_inside n p && nat_lt s n) (is_value_inside n v) h).0).0
+    there-path n p
+    (both (is_path_inside n p) (nat_lt s n) (both (is_path_inside n p && nat_lt s n) (is_value_inside n v) h).0).0
 inside-path n (Ask p r s i) h = there-path n p (both (is_path_inside n p) (nat_lt s n) h).0
 
 -- each fact speaks of what is there among all
@@ -175,9 +180,11 @@ one-seam : (fs : List RowFact) (f : RowFact) → fact_at (fs ++ f ∷ []) (lengt
 one-seam fs f = get_or-append_seam fs f [] (On Outermost 0)
 
 one-which : (fs : List RowFact) (f : RowFact) (i : ℕ) → i < length (fs ++ f ∷ []) → (i < length fs) ⊎ (i ≡ length fs)
-one-which fs f i l = let a = one-long fs f in elim (cases_lt i (length fs)) [ inl k ↦ inl k | inr k ↦ inr (omega (arith, a)) ]
+one-which fs f i l =
+    let a = one-long fs f in elim (cases_lt i (length fs)) [ inl k ↦ inl k | inr k ↦ inr (omega (arith, a)) ]
 
-one-before : (fs : List RowFact) (f : RowFact) → is_inside (length fs) f ≡ true → AreBefore fs → AreBefore (fs ++ f ∷ [])
+one-before : (fs : List RowFact) (f : RowFact) → is_inside (length fs) f ≡ true → AreBefore fs
+    → AreBefore (fs ++ f ∷ [])
 one-before fs f h b i l = elim (one-which fs f i l) [
   | inl k ↦ ap (λ g. is_inside i g) (at-front fs (f ∷ []) i k) ∙ b i k
   | inr q ↦ (let F : ℕ → Type 0 = λ j. is_inside j (fact_at (fs ++ f ∷ []) j) ≡ true in
@@ -205,19 +212,25 @@ one-apart fs f new a i j l m e = elim (one-which fs f i l) [
 member-low : (f : RowFact) → member_chain f < 262144
 member-low (On p n) = mod-lt (n % 262144 + mark_of p) (omega arith)
 member-low (Has p n v) = mod-lt (chain_at p n + value_mark v * 77041) (omega arith)
-member-low (Shape s lo hi) = mod-lt (chain_by Shapes s (pos 0) + index_mark lo * 77041 + index_mark hi * 29327) (omega arith)
+member-low (Shape s lo hi) =
+    mod-lt (chain_by Shapes s (pos 0) + index_mark lo * 77041 + index_mark hi * 29327) (omega arith)
 member-low (Put p n s i v) = mod-lt (chain_by Puts s i + chain_at p n * 3 + value_mark v * 77041) (omega arith)
 member-low (Ask p n s i) = mod-lt (chain_by Asks s i + chain_at p n * 3) (omega arith)
 
 -- facts are found where their chains keep what they have
-pub held-kept : (fs gs : List RowFact) (E F : Edges) → gs ≡ fs → width F ≡ width E → ((n b : ℕ) → Leads E n b → Leads F n b) → AreHeld fs E → AreHeld gs F
+pub held-kept : (fs gs : List RowFact) (E F : Edges) → gs ≡ fs → width F ≡ width E
+    → ((n b : ℕ) → Leads E n b → Leads F n b) → AreHeld fs E → AreHeld gs F
 held-kept fs gs E F e w k h =
     let H : List RowFact → Type 0 = λ xs. AreHeld xs F in
-    subst H (sym e) (record { wide = w ∙ h.wide; there = λ i l. k (member_chain (fact_at fs i)) i (h.there i l); before = h.before })
+    subst H (sym e) (record {
+      wide = w ∙ h.wide;
+      there = λ i l. k (member_chain (fact_at fs i)) i (h.there i l);
+      before = h.before;
+    })
 
 -- and one more, where its number hangs in its chain
-pub held-more : (fs gs : List RowFact) (E F : Edges) (f : RowFact) (n k : ℕ) → gs ≡ fs ++ f ∷ [] → n ≡ length fs → k ≡ member_chain f
-    → is_inside (length fs) f ≡ true → Gains E F k (n ∷ []) → AreHeld fs E → AreHeld gs F
+pub held-more : (fs gs : List RowFact) (E F : Edges) (f : RowFact) (n k : ℕ) → gs ≡ fs ++ f ∷ [] → n ≡ length fs
+    → k ≡ member_chain f → is_inside (length fs) f ≡ true → Gains E F k (n ∷ []) → AreHeld fs E → AreHeld gs F
 held-more fs gs E F f n k e q r inside g h =
     let H : List RowFact → Type 0 = λ xs. AreHeld xs F in
     let ds = fs ++ f ∷ [] in
@@ -286,8 +299,10 @@ learns-both : (fs ds cs es gs : List RowFact) → Learns fs ds es → Learns ds 
 learns-both fs ds cs es gs a b = record {
   news = a.news ++ b.news;
   grows = b.grows ∙ ap (λ xs. xs ++ b.news) a.grows ∙ append_assoc fs a.news b.news;
-  told = λ f h. elim (Among-either f a.news b.news h) [ inl i ↦ Among-left f es gs (a.told f i) | inr i ↦ Among-right f es gs (b.told f i) ];
-  fresh = λ f h k. elim (Among-either f a.news b.news h) [ inl i ↦ a.fresh f i k | inr i ↦ b.fresh f i (kept fs ds a.news a.grows f k) ];
+  told = λ f h. elim (Among-either f a.news b.news h)
+      [ inl i ↦ Among-left f es gs (a.told f i) | inr i ↦ Among-right f es gs (b.told f i) ];
+  fresh = λ f h k. elim (Among-either f a.news b.news h)
+      [ inl i ↦ a.fresh f i k | inr i ↦ b.fresh f i (kept fs ds a.news a.grows f k) ];
   all = λ f h l. elim (Among-either f es gs h) [
     | inl i ↦ kept ds cs b.news b.grows f (a.all f i l)
     | inr i ↦ b.all f i (within-more (length fs) (length ds) f (wide fs ds a.news a.grows) l)
@@ -300,7 +315,8 @@ learns-both fs ds cs es gs a b = record {
 pub learns : (fs es : List RowFact) → Learns fs (all_learnt fs es) es
 learns fs [] = learns-none fs
 learns fs (f ∷ es) =
-    learns-both fs (learnt fs f) (all_learnt (learnt fs f) es) (f ∷ []) es (learns-one fs f (is_inside (length fs) f && not (is_among f fs)) refl)
+    learns-both fs (learnt fs f) (all_learnt (learnt fs f) es) (f ∷ []) es
+    (learns-one fs f (is_inside (length fs) f && not (is_among f fs)) refl)
     (learns (learnt fs f) es)
 
 pub learns-so : (fs ds es : List RowFact) → ds ≡ all_learnt fs es → Learns fs ds es

@@ -68,11 +68,16 @@ named-true s q (Ask p n t i) h = cc
 index-true : (i j : ℤ) → int_eq i j ≡ true → i ≡ j
 index-true i j h = (Decides-int_eq i j).0 h
 
-pub put-true : (s : ℕ) (j : ℤ) (v : RowValue) (f : RowFact) → put_by s j f ≡ Some v → (p : Trail) × (n : ℕ) × (f ≡ Put p n s j v)
+pub put-true : (s : ℕ) (j : ℤ) (v : RowValue) (f : RowFact) → put_by s j f ≡ Some v
+    → (p : Trail) × (n : ℕ) × (f ≡ Put p n s j v)
 put-true s j v (Put p n t i w) h =
     let r = if-some (nat_eq t s && int_eq i j) w v h in
-    let u = both (nat_eq t s) (int_eq i j) r.0 in
-    (p, n, ap (λ a. Put p n a i w) (eqb-true t s u.0) ∙ ap (λ a. Put p n s a w) (index-true i j u.1) ∙ ap (λ a. Put p n s j a) r.1)
+    let u = both (nat_eq t s) (int_eq i j) r.0 in (
+      p,
+      n,
+      ap (λ a. Put p n a i w) (eqb-true t s u.0) ∙ ap (λ a. Put p n s a w) (index-true i j u.1)
+          ∙ ap (λ a. Put p n s j a) r.1,
+    )
 put-true s j v (On p n) h = cc
 put-true s j v (Has p n w) h = cc
 put-true s j v (Shape t lo hi) h = cc
@@ -84,7 +89,8 @@ ask-true s j q (Ask p n t i) h =
     let u = both (nat_eq t s) (int_eq i j) r.0 in
     let l : p ≡ q.path = ap (λ x. x.path) r.1 in
     let m : n ≡ q.row = ap (λ x. x.row) r.1 in
-    ap (λ a. Ask p n a i) (eqb-true t s u.0) ∙ ap (λ a. Ask p n s a) (index-true i j u.1) ∙ ap (λ a. Ask a n s j) l ∙ ap (λ a. Ask q.path a s j) m
+    ap (λ a. Ask p n a i) (eqb-true t s u.0) ∙ ap (λ a. Ask p n s a) (index-true i j u.1) ∙ ap (λ a. Ask a n s j) l
+    ∙ ap (λ a. Ask q.path a s j) m
 ask-true s j q (On p n) h = cc
 ask-true s j q (Has p n w) h = cc
 ask-true s j q (Shape t lo hi) h = cc
@@ -92,8 +98,8 @@ ask-true s j q (Put p n t i w) h = cc
 
 -- ---- what a list of them tells
 
-pub told-among : {A : Type 0} (f : RowFact → Option A) (fs : List RowFact) (is : List ℕ) (x : A) → Among x (told f fs is)
-    → (i : ℕ) × Among i is × (f (fact_at fs i) ≡ Some x)
+pub told-among : {A : Type 0} (f : RowFact → Option A) (fs : List RowFact) (is : List ℕ) (x : A)
+    → Among x (told f fs is) → (i : ℕ) × Among i is × (f (fact_at fs i) ≡ Some x)
 told-among f fs [] x h = absurd h
 told-among f fs (i ∷ is) x h = elim (Among-either x (listed (f (fact_at fs i))) (told f fs is) h) [
   | inl k ↦ (i, inl refl, one (f (fact_at fs i)) k)
@@ -105,13 +111,15 @@ told-among f fs (i ∷ is) x h = elim (Among-either x (listed (f (fact_at fs i))
     one (Some y) (inl e) = ap (λ z. Some z) (sym e)
     one (Some y) (inr k) = absurd k
 
-pub told-all : {A : Type 0} (f : RowFact → Option A) (fs : List RowFact) (is : List ℕ) (i : ℕ) (x : A) → Among i is → f (fact_at fs i) ≡ Some x
-    → Among x (told f fs is)
+pub told-all : {A : Type 0} (f : RowFact → Option A) (fs : List RowFact) (is : List ℕ) (i : ℕ) (x : A) → Among i is
+    → f (fact_at fs i) ≡ Some x → Among x (told f fs is)
 told-all f fs [] i x h e = absurd h
 told-all f fs (j ∷ is) i x (inl q) e =
     let F : Option _ → Type 0 = λ o. Among x (listed o) in
-    Among-left x (listed (f (fact_at fs j))) (told f fs is) (subst F (sym (ap (λ k. f (fact_at fs k)) (sym q) ∙ e)) (inl refl))
-told-all f fs (j ∷ is) i x (inr h) e = Among-right x (listed (f (fact_at fs j))) (told f fs is) (told-all f fs is i x h e)
+    Among-left x (listed (f (fact_at fs j))) (told f fs is)
+    (subst F (sym (ap (λ k. f (fact_at fs k)) (sym q) ∙ e)) (inl refl))
+told-all f fs (j ∷ is) i x (inr h) e =
+    Among-right x (listed (f (fact_at fs j))) (told f fs is) (told-all f fs is i x h e)
 
 some-same : (i j : ℕ) → Some i ≡ Some j → i ≡ j
 some-same i j e = cc
@@ -119,7 +127,8 @@ some-same i j e = cc
 module _ (c : Cells) (chained : AreChained c) where
   -- a fact that is found is one of the cells
   pub fact-there : (k i : ℕ) (f : RowFact) → Among i (chain c k) → fact_at (items c) i ≡ f → Among f (items c)
-  fact-there k i f h e = let F : RowFact → Type 0 = λ g. Among g (items c) in subst F e (among-at (items c) i (chained.within k i h))
+  fact-there k i f h e =
+      let F : RowFact → Type 0 = λ g. Among g (items c) in subst F e (among-at (items c) i (chained.within k i h))
 
   -- and one of the cells is in its chain
   in-chain : (f : RowFact) → Among f (items c) → (i : ℕ) × Among i (chain c (chain_of f)) × (fact_at (items c) i ≡ f)
@@ -128,21 +137,26 @@ module _ (c : Cells) (chained : AreChained c) where
       let F : ℕ → Type 0 = λ k. Among r.0 (chain c k) in
       (r.0, subst F (ap chain_of r.2) (chained.there r.0 r.1), r.2)
 
-  first-true : (p : Trail) (n i : ℕ) (is : List ℕ) → first_on (items c) p n is ≡ Some i → Among i is × (is_on p n (fact_at (items c) i) ≡ true)
+  first-true : (p : Trail) (n i : ℕ) (is : List ℕ) → first_on (items c) p n is ≡ Some i
+      → Among i is × (is_on p n (fact_at (items c) i) ≡ true)
   first-true p n i [] h = cc
   first-true p n i (j ∷ is) h = go (is_on p n (fact_at (items c) j)) refl (λ k. first-true p n i is k) h
     where
       go : (b : Truth) → is_on p n (fact_at (items c) j) ≡ b
           → (first_on (items c) p n is ≡ Some i → Among i is × (is_on p n (fact_at (items c) i) ≡ true))
-          → (if b then Some j else first_on (items c) p n is) ≡ Some i → Among i (j ∷ is) × (is_on p n (fact_at (items c) i) ≡ true)
-      go true e rest k = let q : j ≡ i = some-same j i k in (inl (sym q), ap (λ r. is_on p n (fact_at (items c) r)) (sym q) ∙ e)
+          → (if b then Some j else first_on (items c) p n is) ≡ Some i
+          → Among i (j ∷ is) × (is_on p n (fact_at (items c) i) ≡ true)
+      go true e rest k =
+          let q : j ≡ i = some-same j i k in (inl (sym q), ap (λ r. is_on p n (fact_at (items c) r)) (sym q) ∙ e)
       go false e rest k = let r = rest k in (inr r.0, r.1)
 
-  first-all : (p : Trail) (n i : ℕ) (is : List ℕ) → Among i is → is_on p n (fact_at (items c) i) ≡ true → (j : ℕ) × (first_on (items c) p n is ≡ Some j)
+  first-all : (p : Trail) (n i : ℕ) (is : List ℕ) → Among i is → is_on p n (fact_at (items c) i) ≡ true
+      → (j : ℕ) × (first_on (items c) p n is ≡ Some j)
   first-all p n i [] h e = absurd h
   first-all p n i (k ∷ is) h e = go (is_on p n (fact_at (items c) k)) refl (λ g. first-all p n i is g e) h
     where
-      go : (b : Truth) → is_on p n (fact_at (items c) k) ≡ b → (Among i is → (j : ℕ) × (first_on (items c) p n is ≡ Some j)) → (i ≡ k) ⊎ Among i is
+      go : (b : Truth) → is_on p n (fact_at (items c) k) ≡ b
+          → (Among i is → (j : ℕ) × (first_on (items c) p n is ≡ Some j)) → (i ≡ k) ⊎ Among i is
           → (j : ℕ) × ((if b then Some k else first_on (items c) p n is) ≡ Some j)
       go true f rest g = (k, refl)
       go false f rest (inl q) = absurd (false≢true (sym f ∙ ap (λ r. is_on p n (fact_at (items c) r)) (sym q) ∙ e))
@@ -159,10 +173,12 @@ module _ (c : Cells) (chained : AreChained c) where
       first-all p n r.0 (chain c (chain_at p n)) r.1 (ap (λ f. is_on p n f) r.2 ∙ on-is p n)
 
   -- values, where the fact g is followed
-  pub values-true : (g : RowFact) (p : Trail) (n : ℕ) (v : RowValue) → Among g (items c) → Among v (values c g p n) → Among (Has p n v) (items c)
+  pub values-true : (g : RowFact) (p : Trail) (n : ℕ) (v : RowValue) → Among g (items c) → Among v (values c g p n)
+      → Among (Has p n v) (items c)
   values-true g p n v here h = go (value_by p n g) refl h
     where
-      go : (o : Option RowValue) → value_by p n g ≡ o → Among v (or_these o (told (value_by p n) (items c) (chain c (chain_at p n)))) →
+      go : (o : Option RowValue) → value_by p n g ≡ o
+          → Among v (or_these o (told (value_by p n) (items c) (chain c (chain_at p n)))) →
           Among (Has p n v) (items c)
       go None e k =
           let r = told-among (value_by p n) (items c) (chain c (chain_at p n)) v k in
@@ -172,13 +188,18 @@ module _ (c : Cells) (chained : AreChained c) where
           subst F (value-true p n w g e ∙ ap (λ r. Has p n r) (sym q)) here
       go (Some w) e (inr k) = absurd k
 
-  pub values-all : (g : RowFact) (p : Trail) (n : ℕ) (v : RowValue) → value_by p n g ≡ None → Among (Has p n v) (items c) → Among v (values c g p n)
+  pub values-all : (g : RowFact) (p : Trail) (n : ℕ) (v : RowValue) → value_by p n g ≡ None
+      → Among (Has p n v) (items c) → Among v (values c g p n)
   values-all g p n v e h =
       let r = in-chain (Has p n v) h in
-      let F : Option RowValue → Type 0 = λ o. Among v (or_these o (told (value_by p n) (items c) (chain c (chain_at p n)))) in
-      subst F (sym e) (told-all (value_by p n) (items c) (chain c (chain_at p n)) r.0 v r.1 (ap (λ f. value_by p n f) r.2 ∙ value-is p n v))
+      let F : Option RowValue → Type 0 =
+      λ o. Among v (or_these o (told (value_by p n) (items c) (chain c (chain_at p n)))) in
+      subst F (sym e)
+      (told-all (value_by p n) (items c) (chain c (chain_at p n)) r.0 v r.1 (ap (λ f. value_by p n f) r.2
+      ∙ value-is p n v))
 
   pub values-self : (p : Trail) (n : ℕ) (v : RowValue) → Among v (values c (Has p n v) p n)
   values-self p n v =
-      let F : Option RowValue → Type 0 = λ o. Among v (or_these o (told (value_by p n) (items c) (chain c (chain_at p n)))) in
+      let F : Option RowValue → Type 0 =
+      λ o. Among v (or_these o (told (value_by p n) (items c) (chain c (chain_at p n)))) in
       subst F (sym (value-is p n v)) (inl refl)

@@ -42,7 +42,8 @@ fact-one (Has p n v) (On q m) h = cc
 fact-one (Has p n v) (Has q m w) h =
     let a = both _ (facts.same_value v w) h in
     let b = both (same_trail p q) (nat_eq n m) a.0 in
-    ap (λ x. Has x n v) (trail-true p q b.0) ∙ ap (λ x. Has q x v) (eqb-true n m b.1) ∙ ap (λ x. Has q m x) (value-one v w a.1)
+    ap (λ x. Has x n v) (trail-true p q b.0) ∙ ap (λ x. Has q x v) (eqb-true n m b.1)
+    ∙ ap (λ x. Has q m x) (value-one v w a.1)
 fact-one (Has p n v) (Shape t lo hi) h = cc
 fact-one (Has p n v) (Put q m t j w) h = cc
 fact-one (Has p n v) (Ask q m t j) h = cc
@@ -51,7 +52,8 @@ fact-one (Shape s lo hi) (Has q m w) h = cc
 fact-one (Shape s lo hi) (Shape t low high) h =
     let a = both _ (int_eq hi high) h in
     let b = both (nat_eq s t) (int_eq lo low) a.0 in
-    ap (λ x. Shape x lo hi) (eqb-true s t b.0) ∙ ap (λ x. Shape t x hi) (int-true lo low b.1) ∙ ap (λ x. Shape t low x) (int-true hi high a.1)
+    ap (λ x. Shape x lo hi) (eqb-true s t b.0) ∙ ap (λ x. Shape t x hi) (int-true lo low b.1)
+    ∙ ap (λ x. Shape t low x) (int-true hi high a.1)
 fact-one (Shape s lo hi) (Put q m t j w) h = cc
 fact-one (Shape s lo hi) (Ask q m t j) h = cc
 fact-one (Put p n s i v) (On q m) h = cc
@@ -62,7 +64,8 @@ fact-one (Put p n s i v) (Put q m t j w) h =
     let b = both _ (int_eq i j) a.0 in
     let c = both _ (nat_eq s t) b.0 in
     let d = both (same_trail p q) (nat_eq n m) c.0 in
-    ap (λ x. Put x n s i v) (trail-true p q d.0) ∙ ap (λ x. Put q x s i v) (eqb-true n m d.1) ∙ ap (λ x. Put q m x i v) (eqb-true s t c.1)
+    ap (λ x. Put x n s i v) (trail-true p q d.0) ∙ ap (λ x. Put q x s i v) (eqb-true n m d.1)
+    ∙ ap (λ x. Put q m x i v) (eqb-true s t c.1)
     ∙ ap (λ x. Put q m t x v) (int-true i j b.1) ∙ ap (λ x. Put q m t j x) (value-one v w a.1)
 fact-one (Put p n s i v) (Ask q m t j) h = cc
 fact-one (Ask p n s i) (On q m) h = cc
@@ -73,11 +76,13 @@ fact-one (Ask p n s i) (Ask q m t j) h =
     let a = both _ (int_eq i j) h in
     let b = both _ (nat_eq s t) a.0 in
     let c = both (same_trail p q) (nat_eq n m) b.0 in
-    ap (λ x. Ask x n s i) (trail-true p q c.0) ∙ ap (λ x. Ask q x s i) (eqb-true n m c.1) ∙ ap (λ x. Ask q m x i) (eqb-true s t b.1)
+    ap (λ x. Ask x n s i) (trail-true p q c.0) ∙ ap (λ x. Ask q x s i) (eqb-true n m c.1)
+    ∙ ap (λ x. Ask q m x i) (eqb-true s t b.1)
     ∙ ap (λ x. Ask q m t x) (int-true i j a.1)
 
 -- where a fact is there, it is found in its chain
-pub held-in : (fs : List RowFact) (E : Edges) (f : RowFact) → AreHeld fs E → is_among f fs ≡ true → is_in fs f (targets E.rows.items (member_chain f)) ≡ true
+pub held-in : (fs : List RowFact) (E : Edges) (f : RowFact) → AreHeld fs E → is_among f fs ≡ true
+    → is_in fs f (targets E.rows.items (member_chain f)) ≡ true
 held-in fs E f h e =
     let r = same-among fs f e in
     let x = index-of r.0 fs r.1 in
@@ -87,7 +92,8 @@ held-in fs E f h e =
     in-at fs f (targets E.rows.items (member_chain f)) x.0 (subst P one (h.there x.0 x.1)) x.1 same
 
 -- so where it is not found there, it is not there
-pub held-out : (fs : List RowFact) (E : Edges) (f : RowFact) → AreHeld fs E → is_in fs f (targets E.rows.items (member_chain f)) ≡ false → is_among f fs ≡ false
+pub held-out : (fs : List RowFact) (E : Edges) (f : RowFact) → AreHeld fs E
+    → is_in fs f (targets E.rows.items (member_chain f)) ≡ false → is_among f fs ≡ false
 held-out fs E f h e = at (is_among f fs) refl
   where
     at : (t : Truth) → is_among f fs ≡ t → is_among f fs ≡ false

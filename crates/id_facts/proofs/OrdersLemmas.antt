@@ -1,5 +1,6 @@
 -- Facts in order, and that what a sort of them leaves rises.
-use Rattle.std.proofs.Common.{◌≡◌, ℕ, suc, ℤ, Bool as Truth, true, false, List, [], ◌∷◌, Ordering, Less, Equal, Greater, ◌⊎◌, inl, inr}
+use Rattle.std.proofs.Common.{◌≡◌, ℕ, suc, ℤ, Bool as Truth, true, false, List, [], ◌∷◌, Ordering, Less, Equal, Greater}
+use Rattle.std.proofs.Common.{◌⊎◌, inl, inr}
 use Rattle.std.proofs.Common.{refl, sym, ap, ◌∙◌, subst, arith}
 use Rattle.std.specs.Prelude.{AllPairs, ◌<ℤ◌}
 use Rattle.std.specs.List.{IsDistinct}
@@ -20,10 +21,13 @@ use Rattle.id_source.specs.declared.SourceValue.{SourceValue}
 use Rattle.id_source.specs.declared.SourceValue.TheVariants.{Int, Bool, Name}
 use Rattle.id_source.specs.declared.Fact.{Fact}
 use Rattle.id_source.specs.declared.Fact.TheVariants as fact
-use Rattle.id_source.specs.Orders.{AskBefore, CellBefore, FactBefore, FactsRise, PointBefore, PutBefore, ShapeBefore, SiteBefore, ValueBefore}
+use Rattle.id_source.specs.Orders.{AskBefore, CellBefore, FactBefore, FactsRise, PointBefore, PutBefore, ShapeBefore}
+use Rattle.id_source.specs.Orders.{SiteBefore, ValueBefore}
 use Rattle.id_source.specs.Orders.{kind_of, step_cmp}
-use Rattle.id_facts.specs.Listed.{ask_cmp, cell_cmp, fact_cmp, point_cmp, put_cmp, shape_cmp, site_cmp, sort_of, value_cmp}
-use Rattle.id_source.proofs.PathOrderLemmas.{less_number, less_steps, same_number, same_steps, step_total, then_equal, then_less}
+use Rattle.id_facts.specs.Listed.{ask_cmp, cell_cmp, fact_cmp, point_cmp, put_cmp, shape_cmp, site_cmp, sort_of}
+use Rattle.id_facts.specs.Listed.{value_cmp}
+use Rattle.id_source.proofs.PathOrderLemmas.{less_number, less_steps, same_number, same_steps, step_total, then_equal}
+use Rattle.id_source.proofs.PathOrderLemmas.{then_less}
 
 -- ---- comparisons in turn
 
@@ -34,12 +38,14 @@ then_nothing Equal = refl
 then_nothing Greater = refl
 
 -- one that is less by two in turn is so by the first or by the second
-turn_less : {A B : Type 0} (o p : Ordering) → ordering_then o p ≡ Less → (o ≡ Less → A) → (o ≡ Equal → p ≡ Less → B) → A ⊎ B
+turn_less : {A B : Type 0} (o p : Ordering) → ordering_then o p ≡ Less → (o ≡ Less → A) → (o ≡ Equal → p ≡ Less → B)
+    → A ⊎ B
 turn_less o p h f g = elim (then_less o p h) [ inl k ↦ inl (f k) | inr k ↦ inr (g k.0 k.1) ]
 
 -- one that is as another, which is a total order
 same_total : {K : Type 0} (R T : K → K → Ordering) → ((x y : K) → R x y ≡ T x y) → IsTotalOrder T → IsTotalOrder R
-same_total {K = K} R T e t = let P : (K → K → Ordering) → Type 0 = λ Q. IsTotalOrder Q in subst P (λ i. λ x y. sym (e x y) i) t
+same_total {K = K} R T e t =
+    let P : (K → K → Ordering) → Type 0 = λ Q. IsTotalOrder Q in subst P (λ i. λ x y. sym (e x y) i) t
 
 -- ---- points
 
@@ -108,7 +114,8 @@ names (Name s) = s ∷ []
 -- values compare as their sorts do, and then as these lists
 by_lists : SourceValue → SourceValue → Ordering
 by_lists =
-    then_cmp (on sort_of nat_cmp) (then_cmp (on ints (slice_cmp int_cmp)) (then_cmp (on truths (slice_cmp bool_cmp)) (on names (slice_cmp site_cmp))))
+    then_cmp (on sort_of nat_cmp)
+    (then_cmp (on ints (slice_cmp int_cmp)) (then_cmp (on truths (slice_cmp bool_cmp)) (on names (slice_cmp site_cmp))))
 
 as_lists : (v w : SourceValue) → value_cmp v w ≡ by_lists v w
 unfolding by_lists ints truths names
@@ -159,11 +166,14 @@ same_value (Name s) (Name t) h = ap (λ k. Name k) (same_site s t h)
 -- ---- shapes, puts and asks
 
 shape_total : IsTotalOrder shape_cmp
-shape_total = then_total (on_total (λ s. s.name) site_total) (then_total (on_total (λ s. s.low) int_cmp_total) (on_total (λ s. s.high) int_cmp_total))
+shape_total =
+    then_total (on_total (λ s. s.name) site_total)
+    (then_total (on_total (λ s. s.low) int_cmp_total) (on_total (λ s. s.high) int_cmp_total))
 
 less_shape : (s t : Shape) → shape_cmp s t ≡ Less → ShapeBefore s t
 less_shape s t h =
-    turn_less (site_cmp s.name t.name) (ordering_then (int_cmp s.low t.low) (int_cmp s.high t.high)) h (λ k. less_site s.name t.name k)
+    turn_less (site_cmp s.name t.name) (ordering_then (int_cmp s.low t.low) (int_cmp s.high t.high)) h
+    (λ k. less_site s.name t.name k)
     (λ k l. (
       same_site s.name t.name k,
       turn_less (int_cmp s.low t.low) (int_cmp s.high t.high) l (λ m. less_int s.low t.low m)
@@ -193,7 +203,8 @@ put_total =
 
 less_put : (p q : Put) → put_cmp p q ≡ Less → PutBefore p q
 less_put p q h =
-    turn_less (cell_cmp p.name p.index q.name q.index) (ordering_then (site_cmp p.store q.store) (value_cmp p.value q.value)) h
+    turn_less (cell_cmp p.name p.index q.name q.index)
+    (ordering_then (site_cmp p.store q.store) (value_cmp p.value q.value)) h
     (λ k. less_cell p.name q.name p.index q.index k)
     (λ k l. (let c = same_cell p.name q.name p.index q.index k in (
       c.0,
@@ -204,7 +215,8 @@ less_put p q h =
 
 same_put : (p q : Put) → put_cmp p q ≡ Equal → p ≡ q
 same_put p q h =
-    let a = then_equal (cell_cmp p.name p.index q.name q.index) (ordering_then (site_cmp p.store q.store) (value_cmp p.value q.value)) h in
+    let a = then_equal (cell_cmp p.name p.index q.name q.index)
+    (ordering_then (site_cmp p.store q.store) (value_cmp p.value q.value)) h in
     let b = same_cell p.name q.name p.index q.index a.0 in
     let c = then_equal (site_cmp p.store q.store) (value_cmp p.value q.value) a.1 in
     let x = b.0 in
@@ -215,7 +227,8 @@ same_put p q h =
 
 ask_total : IsTotalOrder ask_cmp
 ask_total =
-    then_total (on_total (λ a. a.fetch) site_total) (then_total (on_total (λ a. a.name) site_total) (on_total (λ a. a.index) int_cmp_total))
+    then_total (on_total (λ a. a.fetch) site_total)
+    (then_total (on_total (λ a. a.name) site_total) (on_total (λ a. a.index) int_cmp_total))
 
 less_ask : (a b : Ask) → ask_cmp a b ≡ Less → AskBefore a b
 less_ask a b h =
@@ -278,13 +291,16 @@ by_kinds =
     then_cmp (on kind_of nat_cmp)
     (then_cmp (on ons (slice_cmp site_cmp))
     (then_cmp (on hass (slice_cmp had_cmp))
-    (then_cmp (on shapes (slice_cmp shape_cmp)) (then_cmp (on puts (slice_cmp put_cmp)) (on asks (slice_cmp ask_cmp))))))
+    (then_cmp (on shapes (slice_cmp shape_cmp))
+    (then_cmp (on puts (slice_cmp put_cmp)) (on asks (slice_cmp ask_cmp))))))
 
 -- two facts are of one kind, or compare as their kinds do
 pairs : (C : Fact → Fact → Type 0) → ((p q : Path) (d e : ℕ) → C (fact.On p d) (fact.On q e))
-    → ((p q : Path) (d e : ℕ) (v w : SourceValue) → C (fact.Has p d v) (fact.Has q e w)) → ((s t : Shape) → C (fact.Shape s) (fact.Shape t))
-    → ((p q : Put) → C (fact.Put p) (fact.Put q)) → ((a b : Ask) → C (fact.Ask a) (fact.Ask b))
-    → ((f g : Fact) → (nat_cmp (kind_of f) (kind_of g) ≡ Equal → ⊥) → fact_cmp f g ≡ nat_cmp (kind_of f) (kind_of g) → C f g) → (f g : Fact) → C f g
+    → ((p q : Path) (d e : ℕ) (v w : SourceValue) → C (fact.Has p d v) (fact.Has q e w))
+    → ((s t : Shape) → C (fact.Shape s) (fact.Shape t)) → ((p q : Put) → C (fact.Put p) (fact.Put q))
+    → ((a b : Ask) → C (fact.Ask a) (fact.Ask b))
+    → ((f g : Fact) → (nat_cmp (kind_of f) (kind_of g) ≡ Equal → ⊥) → fact_cmp f g ≡ nat_cmp (kind_of f) (kind_of g)
+    → C f g) → (f g : Fact) → C f g
 pairs C on has shape put ask other (fact.On p d) (fact.On q e) = on p q d e
 pairs C on has shape put ask other (fact.On p d) (fact.Has q e w) = other (fact.On p d) (fact.Has q e w) (λ h. cc) refl
 pairs C on has shape put ask other (fact.On p d) (fact.Shape t) = other (fact.On p d) (fact.Shape t) (λ h. cc) refl
@@ -292,11 +308,13 @@ pairs C on has shape put ask other (fact.On p d) (fact.Put q) = other (fact.On p
 pairs C on has shape put ask other (fact.On p d) (fact.Ask b) = other (fact.On p d) (fact.Ask b) (λ h. cc) refl
 pairs C on has shape put ask other (fact.Has p d v) (fact.On q e) = other (fact.Has p d v) (fact.On q e) (λ h. cc) refl
 pairs C on has shape put ask other (fact.Has p d v) (fact.Has q e w) = has p q d e v w
-pairs C on has shape put ask other (fact.Has p d v) (fact.Shape t) = other (fact.Has p d v) (fact.Shape t) (λ h. cc) refl
+pairs C on has shape put ask other (fact.Has p d v) (fact.Shape t) =
+    other (fact.Has p d v) (fact.Shape t) (λ h. cc) refl
 pairs C on has shape put ask other (fact.Has p d v) (fact.Put q) = other (fact.Has p d v) (fact.Put q) (λ h. cc) refl
 pairs C on has shape put ask other (fact.Has p d v) (fact.Ask b) = other (fact.Has p d v) (fact.Ask b) (λ h. cc) refl
 pairs C on has shape put ask other (fact.Shape s) (fact.On q e) = other (fact.Shape s) (fact.On q e) (λ h. cc) refl
-pairs C on has shape put ask other (fact.Shape s) (fact.Has q e w) = other (fact.Shape s) (fact.Has q e w) (λ h. cc) refl
+pairs C on has shape put ask other (fact.Shape s) (fact.Has q e w) =
+    other (fact.Shape s) (fact.Has q e w) (λ h. cc) refl
 pairs C on has shape put ask other (fact.Shape s) (fact.Shape t) = shape s t
 pairs C on has shape put ask other (fact.Shape s) (fact.Put q) = other (fact.Shape s) (fact.Put q) (λ h. cc) refl
 pairs C on has shape put ask other (fact.Shape s) (fact.Ask b) = other (fact.Shape s) (fact.Ask b) (λ h. cc) refl
@@ -320,8 +338,10 @@ first_only Greater p h = refl
 as_kinds : (f g : Fact) → fact_cmp f g ≡ by_kinds f g
 unfolding by_kinds ons hass shapes puts asks had_cmp
 as_kinds =
-    pairs (λ f g. fact_cmp f g ≡ by_kinds f g) (λ p q d e. sym (then_nothing _ ∙ then_nothing _)) (λ p q d e v w. sym (then_nothing _ ∙ then_nothing _))
-    (λ s t. sym (then_nothing _ ∙ then_nothing _)) (λ p q. sym (then_nothing _ ∙ then_nothing _)) (λ a b. sym (then_nothing _))
+    pairs (λ f g. fact_cmp f g ≡ by_kinds f g) (λ p q d e. sym (then_nothing _ ∙ then_nothing _))
+    (λ p q d e v w. sym (then_nothing _ ∙ then_nothing _))
+    (λ s t. sym (then_nothing _ ∙ then_nothing _)) (λ p q. sym (then_nothing _ ∙ then_nothing _))
+    (λ a b. sym (then_nothing _))
     (λ f g n h. h ∙ sym (first_only (nat_cmp (kind_of f) (kind_of g)) _ n))
 
 -- facts are in a total order
@@ -331,7 +351,8 @@ fact_total =
     same_total fact_cmp by_kinds as_kinds
     (then_total (on_total kind_of nat_cmp_total)
     (then_total (on_total ons (lists_total site_total))
-    (then_total (on_total hass (lists_total (then_total (on_total (λ h. h.0) site_total) (on_total (λ h. h.1) value_total))))
+    (then_total
+    (on_total hass (lists_total (then_total (on_total (λ h. h.0) site_total) (on_total (λ h. h.1) value_total))))
     (then_total (on_total shapes (lists_total shape_total))
     (then_total (on_total puts (lists_total put_total)) (on_total asks (lists_total ask_total)))))))
 
@@ -347,12 +368,14 @@ less_fact =
 -- facts that tie are one
 pub same_fact : (f g : Fact) → fact_cmp f g ≡ Equal → f ≡ g
 same_fact =
-    pairs (λ f g. fact_cmp f g ≡ Equal → f ≡ g) (λ p q d e h. (let s = same_point p q d e h in ap (λ r. fact.On r d) s.0 ∙ ap (λ r. fact.On q r) s.1))
+    pairs (λ f g. fact_cmp f g ≡ Equal
+    → f ≡ g) (λ p q d e h. (let s = same_point p q d e h in ap (λ r. fact.On r d) s.0 ∙ ap (λ r. fact.On q r) s.1))
     (λ p q d e v w h. (
     let k = then_equal (point_cmp p d q e) (value_cmp v w) h in
     let s = same_point p q d e k.0 in
     ap (λ r. fact.Has r d v) s.0 ∙ ap (λ r. fact.Has q r v) s.1 ∙ ap (λ r. fact.Has q e r) (same_value v w k.1)))
-    (λ s t h. ap (λ r. fact.Shape r) (same_shape s t h)) (λ p q h. ap (λ r. fact.Put r) (same_put p q h)) (λ a b h. ap (λ r. fact.Ask r) (same_ask a b h))
+    (λ s t h. ap (λ r. fact.Shape r) (same_shape s t h)) (λ p q h. ap (λ r. fact.Put r) (same_put p q h))
+    (λ a b h. ap (λ r. fact.Ask r) (same_ask a b h))
     (λ f g n k h. absurd (n (sym k ∙ h)))
 
 -- ---- lists of facts
@@ -386,15 +409,18 @@ fact_lt f g = is_lt (fact_cmp f g)
 
 -- what a sort by that test leaves goes up
 pub up-from_sort : (fs : List Fact) → IsSortedBy fact_lt fs → AllPairs (λ f g. fact_lt g f ≡ false) fs
-up-from_sort fs up i j d below within = sorted_far fact_lt (ranks_by fact_total (λ f. f)) fs up i j d (omega arith) within
+up-from_sort fs up i j d below within =
+    sorted_far fact_lt (ranks_by fact_total (λ f. f)) fs up i j d (omega arith) within
 
 -- facts that go up, none of them twice, rise
 pub FactsRise-up : (fs : List Fact) → AllPairs (λ f g. fact_lt g f ≡ false) fs → IsDistinct is_same fs → FactsRise fs
 unfolding IsDistinct
 FactsRise-up [] up apart = tt
 FactsRise-up (f ∷ []) up apart = tt
-FactsRise-up (f ∷ g ∷ fs) up apart =
-    (at (fact_cmp f g) refl, FactsRise-up (g ∷ fs) (λ i j d below within. up (suc i) (suc j) d (omega arith) (omega arith)) apart.1)
+FactsRise-up (f ∷ g ∷ fs) up apart = (
+  at (fact_cmp f g) refl,
+  FactsRise-up (g ∷ fs) (λ i j d below within. up (suc i) (suc j) d (omega arith) (omega arith)) apart.1,
+)
   where
     at : (o : Ordering) → fact_cmp f g ≡ o → FactBefore f g
     at Less e = less_fact f g e

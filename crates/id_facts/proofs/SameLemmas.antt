@@ -32,7 +32,8 @@ among-same (k ∷ fs) f g (inl q) e =
 among-same (k ∷ fs) f g (inr h) e = or-right (same_fact k f) (is_among f fs) (among-same fs f g h e)
 
 -- and the other way round
-pub same-among : (fs : List RowFact) (f : RowFact) → is_among f fs ≡ true → (g : RowFact) × Among g fs × (same_fact g f ≡ true)
+pub same-among : (fs : List RowFact) (f : RowFact) → is_among f fs ≡ true
+    → (g : RowFact) × Among g fs × (same_fact g f ≡ true)
 same-among [] f h = absurd (false≢true h)
 same-among (k ∷ fs) f h = elim (or-true (same_fact k f) (is_among f fs) h) [
   | inl e ↦ (k, inl refl, e)
@@ -46,19 +47,23 @@ among-any (f ∷ fs) zero d l = inl refl
 among-any (f ∷ fs) (suc n) d l = inr (among-any fs n d (omega arith))
 
 -- a fact is there where that of some number is the same
-pub found-at : (fs : List RowFact) (f g : RowFact) (n : ℕ) → n < length fs → g ≡ get_or fs n g → same_fact g f ≡ true → true ≡ is_among f fs
+pub found-at : (fs : List RowFact) (f g : RowFact) (n : ℕ) → n < length fs → g ≡ get_or fs n g → same_fact g f ≡ true
+    → true ≡ is_among f fs
 found-at fs f g n l q e =
     let P : RowFact → Type 0 = λ h. Among h fs in
     sym (among-same fs f g (subst P (sym q) (among-any fs n g l)) e)
 
 -- where the number of the same fact is one of these, the fact is in them
-pub in-at : (fs : List RowFact) (f : RowFact) (is : List ℕ) (i : ℕ) → Among i is → i < length fs → same_fact (fact_at fs i) f ≡ true → is_in fs f is ≡ true
+pub in-at : (fs : List RowFact) (f : RowFact) (is : List ℕ) (i : ℕ) → Among i is → i < length fs
+    → same_fact (fact_at fs i) f ≡ true → is_in fs f is ≡ true
 in-at fs f [] i h l e = absurd h
 in-at fs f (j ∷ is) i (inl q) l e =
     let P : ℕ → Type 0 = λ k. nat_lt k (length fs) && same_fact (fact_at fs k) f ≡ true in
-    or-left (nat_lt j (length fs) && same_fact (fact_at fs j) f) (is_in fs f is) (subst P q (and-true _ _ (lt-ltb i (length fs) l) e))
+    or-left (nat_lt j (length fs) && same_fact (fact_at fs j) f) (is_in fs f is)
+    (subst P q (and-true _ _ (lt-ltb i (length fs) l) e))
   where
     and-true : (a b : Truth) → a ≡ true → b ≡ true → a && b ≡ true
     and-true true b p q = q
     and-true false b p q = cc
-in-at fs f (j ∷ is) i (inr h) l e = or-right (nat_lt j (length fs) && same_fact (fact_at fs j) f) (is_in fs f is) (in-at fs f is i h l e)
+in-at fs f (j ∷ is) i (inr h) l e =
+    or-right (nat_lt j (length fs) && same_fact (fact_at fs j) f) (is_in fs f is) (in-at fs f is i h l e)

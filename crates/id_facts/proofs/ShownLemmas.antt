@@ -25,7 +25,8 @@ module _ (P : Checked) (fs : List RowFact) where
   facts-count [] = refl
   facts-count (g ∷ gs) = let r = facts-count gs in omega (arith, r)
 
-  in-at : (gs : List RowFact) (i : ℕ) (d : Fact) → i < length gs → get_or (facts_in P fs gs) i d ≡ fact_of P fs (fact_at gs i)
+  in-at : (gs : List RowFact) (i : ℕ) (d : Fact) → i < length gs
+      → get_or (facts_in P fs gs) i d ≡ fact_of P fs (fact_at gs i)
   in-at [] i d l = absurd (omega arith)
   in-at (g ∷ gs) zero d l = refl
   in-at (g ∷ gs) (suc i) d l = in-at gs i d (omega arith)
@@ -35,14 +36,17 @@ module _ (P : Checked) (fs : List RowFact) where
       subst (λ xs. IsPermutation xs (facts_in P fs gs)) (facts-map fs)
       (subst (λ ys. IsPermutation (map (fact_of P fs) fs) ys) (facts-map gs) (IsPermutation-map (fact_of P fs) fs gs p))
 
-  up : (gs : List RowFact) → IsSortedBy (row_lt P fs) gs → AllPairs (λ f g. is_lt (fact_cmp g f) ≡ false) (facts_in P fs gs)
+  up : (gs : List RowFact) → IsSortedBy (row_lt P fs) gs
+      → AllPairs (λ f g. is_lt (fact_cmp g f) ≡ false) (facts_in P fs gs)
   up gs s i j d below within =
       let c = facts-count gs in
       let w : j < length gs = omega (arith, c, within) in
       let a = in-at gs j d w in
       let b = in-at gs i d (omega (arith, w, below)) in
-      ap (λ f. is_lt (fact_cmp f (get_or (facts_in P fs gs) i d))) a ∙ ap (λ g. is_lt (fact_cmp (fact_of P fs (fact_at gs j)) g)) b
+      ap (λ f. is_lt (fact_cmp f (get_or (facts_in P fs gs) i d))) a
+      ∙ ap (λ g. is_lt (fact_cmp (fact_of P fs (fact_at gs j)) g)) b
       ∙ sorted_far (row_lt P fs) (ranks_by fact_total (λ f. fact_of P fs f)) gs s i j _ (omega (arith, below)) w
 
-pub shown-sorted : (P : Checked) (fs gs : List RowFact) → IsPermutation fs gs → IsSortedBy (row_lt P fs) gs → AreShown P fs (facts_in P fs gs)
+pub shown-sorted : (P : Checked) (fs gs : List RowFact) → IsPermutation fs gs → IsSortedBy (row_lt P fs) gs
+    → AreShown P fs (facts_in P fs gs)
 shown-sorted P fs gs p s = record { same = same P fs gs p; up = up P fs gs s }

@@ -14,7 +14,8 @@ module _ {A : Type 0} (f : RowFact → Option A) (fs : List RowFact) where
       → now ++ told f fs (drop (i + 1) is) ≡ whole
   told-more is numbers i d old now whole same within given so_far =
       gathered-more (told f fs) (λ n. listed (f (fact_at fs n))) (λ _ _. refl) is i d old now whole
-      (subst (λ ns. i < length ns) same within) (subst (λ ns. now ≡ old ++ listed (f (fact_at fs (get_or ns i d)))) same given) so_far
+      (subst (λ ns. i < length ns) same within)
+      (subst (λ ns. now ≡ old ++ listed (f (fact_at fs (get_or ns i d)))) same given) so_far
 
   pub told-all : (is numbers : List ℕ) (i : ℕ) (now whole : List A) → numbers ≡ is → length numbers ≤ i
       → now ++ told f fs (drop i is) ≡ whole → now ≡ whole
@@ -26,5 +27,6 @@ pub listed-some : {A : Type 0} → (x y : Option A) (a : A) (old now : List A) �
     → now ≡ old ++ listed y
 listed-some x y a old now own is added = added ∙ ap (λ z. old ++ listed z) (sym is ∙ own)
 
-pub listed-none : {A : Type 0} → (x y : Option A) (old now : List A) → x ≡ y → x ≡ None → now ≡ old → now ≡ old ++ listed y
+pub listed-none : {A : Type 0} → (x y : Option A) (old now : List A) → x ≡ y → x ≡ None → now ≡ old
+    → now ≡ old ++ listed y
 listed-none x y old now own is same = same ∙ sym (append-nil old) ∙ ap (λ z. old ++ listed z) (sym is ∙ own)

@@ -11,7 +11,12 @@ use Rattle.id_laws.proofs.Telling.Wholes.{are_whole}
 use Rattle.id_judge.specs.Lines.{AreClear}
 use Rattle.id_judge.proofs.FewLemmas.{are_clear}
 
-pub clear_lines : (S : Source) (g : Parts) (count : ℕ) → AreInputs S.checked S.inputs → Schemas S.checked g → AreClear g S.inputs count
+pub clear_lines : (S : Source) (g : Parts) (count : ℕ) → AreInputs S.checked S.inputs → Schemas S.checked g
+    → AreClear g S.inputs count
 clear_lines S g count inputs schemas = are_clear g S.inputs count (λ ks k.
     let r = reached g S.inputs count ks in
-    omega (arith, at_most_one g S.inputs count (alone S (known S.checked) (are_whole S inputs) g schemas.number schemas.numbered count) _ r.events r.reach k))
+    omega (
+      arith,
+      at_most_one g S.inputs count
+          (alone S (known S.checked) (are_whole S inputs) g schemas.number schemas.numbered count) _ r.events r.reach k,
+    ))

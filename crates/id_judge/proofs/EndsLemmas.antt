@@ -1,5 +1,6 @@
 -- The first line of a text, with what stands behind the text and without.
-use Rattle.std.proofs.Common.{◌≡◌, ◌≤◌, ◌<◌, ◌⊎◌, inl, inr, ℕ, zero, suc, ◌+◌, ◌/◌, ◌%◌, ◌==◌, Bool, true, false, cond, List, [], ◌∷◌, ◌++◌, ◌-◌, length, take, drop, refl, sym, ap, ◌∙◌, arith}
+use Rattle.std.proofs.Common.{◌≡◌, ◌≤◌, ◌<◌, ◌⊎◌, inl, inr, ℕ, zero, suc, ◌+◌, ◌/◌, ◌%◌, ◌==◌, Bool, true, false, cond}
+use Rattle.std.proofs.Common.{List, [], ◌∷◌, ◌++◌, ◌-◌, length, take, drop, refl, sym, ap, ◌∙◌, arith}
 use Rattle.std.specs.Prelude.{◌&&◌, ◌||◌, nat_le, decimal}
 use Rattle.std.proofs.lemmas.List.{append-nil, length-append, take_all, take-append-drop, take-append-le}
 use Rattle.std.proofs.Math.Seq.{take-append-add}
@@ -36,7 +37,8 @@ end_past : (b : ℕ) (bs : List ℕ) → (b == 10) ≡ false → has_end (b ∷ 
 end_past b bs n e = sym (ap (λ c. c || has_end bs) n) ∙ e
 
 -- a front without a line feed is one of a text that has one, too
-pub front_of : (front text more rest : List ℕ) → IsPlain front → has_end text ≡ true → text ++ more ≡ front ++ rest → Fronts text front
+pub front_of : (front text more rest : List ℕ) → IsPlain front → has_end text ≡ true → text ++ more ≡ front ++ rest
+    → Fronts text front
 front_of [] text more rest p e is = (text, refl)
 front_of (c ∷ front) [] more rest p e is = absurd (end_none e)
 front_of (c ∷ front) (b ∷ text) more rest p e is =
@@ -62,7 +64,8 @@ abbrev pub IsBehind : List ℕ → List ℕ → List ℕ → Type 0
 IsBehind text longer more = ((longer ≡ text ++ more) × (has_end text ≡ true)) ⊎ ((text ≡ []) × (longer ≡ []))
 
 behind_by : (b : ℕ) (text more : List ℕ) → has_end (b ∷ text) ≡ true
-    → ((b == 10) ≡ false → IsBehind (behind text) (behind (text ++ more)) more) → (s f : Bool) → (b == 32) ≡ s → (b == 10) ≡ f
+    → ((b == 10) ≡ false → IsBehind (behind text) (behind (text ++ more)) more) → (s f : Bool) → (b == 32) ≡ s
+    → (b == 10) ≡ f
     → IsBehind (cond s text (cond f [] (behind text))) (cond s (text ++ more) (cond f [] (behind (text ++ more)))) more
 behind_by b text more e later true true is at = absurd (grind (arith, nat_tests))
 behind_by b text more e later true false is at = inl (refl, end_past b text at e)
@@ -89,7 +92,8 @@ or_true true q e = refl
 or_true false q e = absurd (false≢true e)
 
 -- a line feed of a front of the text is in its first bytes, where those are as many
-pub end_within : (n : ℕ) (text more : List ℕ) → length text ≤ n → has_end text ≡ true → has_end (take n (text ++ more)) ≡ true
+pub end_within : (n : ℕ) (text more : List ℕ) → length text ≤ n → has_end text ≡ true
+    → has_end (take n (text ++ more)) ≡ true
 end_within n text more short e =
     let k : n ≡ length text + (n - length text) = omega arith in
     ap (λ j. has_end (take j (text ++ more))) k ∙ ap has_end (take-append-add text more (n - length text))
@@ -102,7 +106,9 @@ no_end_within n text e =
   where
     either : (b : Bool) → has_end (take n text) ≡ b → has_end (take n text) ≡ false
     either false is = is
-    either true is = absurd (false≢true (sym e ∙ ap has_end (sym (take-append-drop n text)) ∙ end_append (take n text) (drop n text) ∙ or_true (has_end (take n text)) _ is))
+    either true is =
+        absurd (false≢true (sym e ∙ ap has_end (sym (take-append-drop n text)) ∙ end_append (take n text) (drop n text)
+        ∙ or_true (has_end (take n text)) _ is))
 
 -- ---- first lines
 
@@ -140,15 +146,18 @@ no_and false c e = refl
 
 -- a text without a line feed, of which there is enough, begins with no line of an event
 pub no_line : (text more : List ℕ) → has_end text ≡ false → IsEnough text more → is_line (text ++ more) ≡ false
-no_line text more none enough = line_more text more enough ∙ no_and (begin_with_digit text) _ (no_end_within 4096 text none)
+no_line text more none enough =
+    line_more text more enough ∙ no_and (begin_with_digit text) _ (no_end_within 4096 text none)
 
 and_both : (b c : Bool) → b ≡ true → c ≡ true → (b && c) ≡ true
 and_both true c e f = f
 and_both false c e f = absurd (false≢true e)
 
 -- a short line that a digit opens, whatever stands behind it
-pub line_is : (line tail : List ℕ) → begin_with_digit line ≡ true → has_end line ≡ true → length line ≤ 4096 → is_line (line ++ tail) ≡ true
-line_is line tail digit e short = and_both (begin_with_digit (line ++ tail)) _ (begin_append line tail digit) (end_within 4096 line tail short e)
+pub line_is : (line tail : List ℕ) → begin_with_digit line ≡ true → has_end line ≡ true → length line ≤ 4096
+    → is_line (line ++ tail) ≡ true
+line_is line tail digit e short =
+    and_both (begin_with_digit (line ++ tail)) _ (begin_append line tail digit) (end_within 4096 line tail short e)
 
 pub line_has_end : (text : List ℕ) → is_line text ≡ true → has_end text ≡ true
 line_has_end text is = by (has_end text) refl
@@ -162,13 +171,16 @@ line_has_end text is = by (has_end text) refl
 glyph_digit : (n : ℕ) → begin_with_digit (digit_glyph false (n % 10) ∷ []) ≡ true
 glyph_digit n = grind (arith, nat_tests)
 
-onto_begin : (k n c : ℕ) (acc : List ℕ) → begin_with_digit (c ∷ []) ≡ true → begin_with_digit (digits_onto k 10 false n (c ∷ acc)) ≡ true
+onto_begin : (k n c : ℕ) (acc : List ℕ) → begin_with_digit (c ∷ []) ≡ true
+    → begin_with_digit (digits_onto k 10 false n (c ∷ acc)) ≡ true
 onto_begin zero n c acc e = e
 onto_begin (suc k) n c acc e =
     by (n / 10 == 0) (onto_begin k (n / 10) (digit_glyph false (n % 10)) (c ∷ acc) (glyph_digit n))
   where
     by : (b : Bool) → begin_with_digit (digits_onto k 10 false (n / 10) (digit_glyph false (n % 10) ∷ (c ∷ acc))) ≡ true
-        → begin_with_digit (cond b (digit_glyph false (n % 10) ∷ (c ∷ acc)) (digits_onto k 10 false (n / 10) (digit_glyph false (n % 10) ∷ (c ∷ acc)))) ≡ true
+        → begin_with_digit
+        (cond b (digit_glyph false (n % 10) ∷ (c ∷ acc))
+        (digits_onto k 10 false (n / 10) (digit_glyph false (n % 10) ∷ (c ∷ acc)))) ≡ true
     by true h = glyph_digit n
     by false h = h
 
@@ -177,7 +189,9 @@ unfolding digits
 decimal_begin n = by (n / 10 == 0) (onto_begin 63 (n / 10) (digit_glyph false (n % 10)) [] (glyph_digit n))
   where
     by : (b : Bool) → begin_with_digit (digits_onto 63 10 false (n / 10) (digit_glyph false (n % 10) ∷ [])) ≡ true
-        → begin_with_digit (cond b (digit_glyph false (n % 10) ∷ []) (digits_onto 63 10 false (n / 10) (digit_glyph false (n % 10) ∷ []))) ≡ true
+        → begin_with_digit
+        (cond b (digit_glyph false (n % 10) ∷ []) (digits_onto 63 10 false (n / 10) (digit_glyph false (n % 10) ∷ [])))
+        ≡ true
     by true h = glyph_digit n
     by false h = h
 
@@ -186,8 +200,10 @@ onto_short zero n acc = omega arith
 onto_short (suc k) n acc =
     by (n / 10 == 0) (onto_short k (n / 10) (digit_glyph false (n % 10) ∷ acc))
   where
-    by : (b : Bool) → length (digits_onto k 10 false (n / 10) (digit_glyph false (n % 10) ∷ acc)) ≤ k + length (digit_glyph false (n % 10) ∷ acc)
-        → length (cond b (digit_glyph false (n % 10) ∷ acc) (digits_onto k 10 false (n / 10) (digit_glyph false (n % 10) ∷ acc))) ≤ suc k + length acc
+    by : (b : Bool)
+        → length (digits_onto k 10 false (n / 10) (digit_glyph false (n % 10) ∷ acc)) ≤ k
+        + length (digit_glyph false (n % 10) ∷ acc) → length (cond b (digit_glyph false (n % 10) ∷ acc)
+        (digits_onto k 10 false (n / 10) (digit_glyph false (n % 10) ∷ acc))) ≤ suc k + length acc
     by true h = omega arith
     by false h = omega (arith, h)
 
@@ -208,9 +224,11 @@ rest_ends [] rest body is some =
 rest_ends (x ∷ done) rest [] is some =
     let none : done ++ rest ≡ [] = cc in
     absurd (omega (arith, some, length-append done rest, ap length none))
-rest_ends (x ∷ done) rest (y ∷ body) is some = let tails : done ++ rest ≡ body ++ 10 ∷ [] = cc in rest_ends done rest body tails some
+rest_ends (x ∷ done) rest (y ∷ body) is some =
+    let tails : done ++ rest ≡ body ++ 10 ∷ [] = cc in rest_ends done rest body tails some
 
 -- what is left of such a text is enough
-pub rest_enough : (text done rest more : List ℕ) → text ≡ done ++ rest → 0 < length rest → IsOfLines text more → IsEnough rest more
+pub rest_enough : (text done rest more : List ℕ) → text ≡ done ++ rest → 0 < length rest → IsOfLines text more
+    → IsEnough rest more
 rest_enough text done rest more parts some (inl none) = inl none
 rest_enough text done rest more parts some (inr body) = inr (inl (rest_ends done rest body.0 (sym parts ∙ body.1) some))

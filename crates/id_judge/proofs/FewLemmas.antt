@@ -17,8 +17,8 @@ use Rattle.id_judge.proofs.KeysLemmas.{key_told}
 use Rattle.id_judge.proofs.OrderLemmas.{also_among, other_order}
 
 -- two messages of a list that has at most one for their key are one
-one_message : (k : Key) (m n : Message) (xs : List Message) → count_for k (map (λ (x : Message). x.payload) xs) ≤ 1 → Among m xs → Among n xs
-    → key_of m.payload ≡ k → key_of n.payload ≡ k → m ≡ n
+one_message : (k : Key) (m n : Message) (xs : List Message) → count_for k (map (λ (x : Message). x.payload) xs) ≤ 1
+    → Among m xs → Among n xs → key_of m.payload ≡ k → key_of n.payload ≡ k → m ≡ n
 one_message k m n [] few a b c d = absurd a
 one_message k m n (z ∷ xs) few (inl a) (inl b) c d = a ∙ sym b
 one_message k m n (z ∷ xs) few (inl a) (inr b) c d =
@@ -53,7 +53,9 @@ are_clear g vs count few es w lead m n a b small other text c d x y =
     let s = run g count r.positions (start g vs count) in
     let order = other_order s.flight w.flight r.end.flight in
     let says : payload_text m.payload ++ (end_text c ++ x.rest) ≡ payload_text n.payload ++ (end_text d ++ y.rest) =
-    sym (append_assoc (payload_text m.payload) (end_text c) x.rest) ∙ sym x.is ∙ y.is ∙ append_assoc (payload_text n.payload) (end_text d) y.rest in
+    sym (append_assoc (payload_text m.payload) (end_text c) x.rest) ∙ sym x.is ∙ y.is
+    ∙ append_assoc (payload_text n.payload) (end_text d) y.rest in
     let keys : key_of m.payload ≡ key_of n.payload = key_told m.payload n.payload c d x.rest y.rest small other says in
-    one_message (key_of m.payload) m n s.flight (few r.positions (key_of m.payload)) (also_among m w.flight s.flight order a)
+    one_message (key_of m.payload) m n s.flight (few r.positions (key_of m.payload))
+    (also_among m w.flight s.flight order a)
     (also_among n w.flight s.flight order b) refl (sym keys)

@@ -1,5 +1,6 @@
 -- The line of an event is short, begins with a digit and has one line feed, its last byte.
-use Rattle.std.proofs.Common.{◌≡◌, ◌≤◌, ℕ, suc, Bool, true, false, List, [], ◌∷◌, ◌++◌, length, refl, sym, ap, ◌∙◌, arith, append_assoc}
+use Rattle.std.proofs.Common.{◌≡◌, ◌≤◌, ℕ, suc, Bool, true, false, List, [], ◌∷◌, ◌++◌, length, refl, sym, ap, ◌∙◌}
+use Rattle.std.proofs.Common.{arith, append_assoc}
 use Rattle.std.specs.Prelude.{◌||◌, ℤ, pos, negsuc, codes, decimal}
 use Rattle.std.specs.Fmt.{signed_decimal}
 use Rattle.std.proofs.lemmas.List.{length-append}
@@ -17,11 +18,13 @@ use Rattle.id_record.specs.declared.step.Step.{Step}
 use Rattle.id_record.specs.declared.step.Step.TheVariants.{Went, Fault, Stuck}
 use Rattle.id_core.specs.Events.{EventView}
 use Rattle.id_sink.specs.Texts.{truth_text}
-use Rattle.id_trace.specs.Traces.{carried_text, cell_text, context_text, delivery_text, end_text, entry_text, from_text, goal_text, handled_text, line_text}
+use Rattle.id_trace.specs.Traces.{carried_text, cell_text, context_text, delivery_text, end_text, entry_text, from_text}
+use Rattle.id_trace.specs.Traces.{goal_text, handled_text, line_text}
 use Rattle.id_trace.specs.Traces.{moment_text, payload_text, port_text, structure_text, tag_text, turn_text}
 use Rattle.id_judge.specs.Ends.{begin_with_digit, has_end, is_line}
 use Rattle.id_judge.proofs.LinesLemmas.{decimal_word}
-use Rattle.id_judge.proofs.EndsLemmas.{IsPlain, begin_append, decimal_begin, decimal_short, end_append, line_is, plain_append, plain_word}
+use Rattle.id_judge.proofs.EndsLemmas.{IsPlain, begin_append, decimal_begin, decimal_short, end_append, line_is}
+use Rattle.id_judge.proofs.EndsLemmas.{plain_append, plain_word}
 
 -- ---- no line feed
 
@@ -33,16 +36,27 @@ plain_signed (pos n) = plain_decimal n
 plain_signed (negsuc n) = (refl, plain_decimal (suc n))
 
 plain_context : (c : Context) → IsPlain (context_text c)
-plain_context c = plain_append (decimal c.element) (46 ∷ decimal c.serial) (plain_decimal c.element) (refl, plain_decimal c.serial)
+plain_context c =
+    plain_append (decimal c.element) (46 ∷ decimal c.serial) (plain_decimal c.element) (refl, plain_decimal c.serial)
 
 plain_turn : (t : Tag) → IsPlain (turn_text t)
-plain_turn t = plain_append (context_text t.context) (35 ∷ decimal t.iteration) (plain_context t.context) (refl, plain_decimal t.iteration)
+plain_turn t =
+    plain_append (context_text t.context) (35 ∷ decimal t.iteration) (plain_context t.context) (
+      refl,
+      plain_decimal t.iteration,
+    )
 
 plain_tag : (t : Tag) → IsPlain (tag_text t)
 plain_tag t = plain_append (turn_text t) (58 ∷ decimal t.instr) (plain_turn t) (refl, plain_decimal t.instr)
 
 plain_structure : (s : Structure) → IsPlain (structure_text s)
-plain_structure s = (refl, plain_append (decimal s.element) (46 ∷ decimal s.serial) (plain_decimal s.element) (refl, plain_decimal s.serial))
+plain_structure s = (
+  refl,
+  plain_append (decimal s.element) (46 ∷ decimal s.serial) (plain_decimal s.element) (
+    refl,
+    plain_decimal s.serial,
+  ),
+)
 
 plain_cell : (c : Cell) → IsPlain (cell_text c)
 plain_cell c =
@@ -74,15 +88,35 @@ plain_delivery t p v =
     (refl, plain_carried v)
 
 plain_from : (t : Tag) → IsPlain (from_text t)
-plain_from t = (refl, (refl, plain_append (turn_text t) (32 ∷ decimal t.instr) (plain_turn t) (refl, plain_decimal t.instr)))
+plain_from t =
+    (refl, (refl, plain_append (turn_text t) (32 ∷ decimal t.instr) (plain_turn t) (refl, plain_decimal t.instr)))
 
 -- what a message says has none
 pub plain_payload : (p : Payload) → IsPlain (payload_text p)
 plain_payload (Token t port v) = (refl, (refl, (refl, (refl, (refl, (refl, (refl, plain_delivery t port v)))))))
-plain_payload (Read c t) = (refl, (refl, (refl, (refl, (refl, plain_append (cell_text c) (from_text t) (plain_cell c) (plain_from t))))))
+plain_payload (Read c t) =
+    (refl, (refl, (refl, (refl, (refl, plain_append (cell_text c) (from_text t) (plain_cell c) (plain_from t))))))
 plain_payload (Write c v t) =
-    let rest : IsPlain (carried_text v ++ from_text t) = plain_append (carried_text v) (from_text t) (plain_carried v) (plain_from t) in
-    (refl, (refl, (refl, (refl, (refl, (refl, plain_append (cell_text c) (32 ∷ (carried_text v ++ from_text t)) (plain_cell c) (refl, rest)))))))
+    let rest : IsPlain (carried_text v ++ from_text t) =
+    plain_append (carried_text v) (from_text t) (plain_carried v) (plain_from t) in (
+      refl,
+      (
+        refl,
+        (
+          refl,
+          (
+            refl,
+            (
+              refl,
+              (
+                refl,
+                plain_append (cell_text c) (32 ∷ (carried_text v ++ from_text t)) (plain_cell c) (refl, rest),
+              ),
+            ),
+          ),
+        ),
+      ),
+    )
 
 -- an end of a line, and its line feed
 pub record Ends (step : Step) : Type 0 where
@@ -105,7 +139,8 @@ said_plain p step = plain_append (payload_text p) (ends step).word (plain_payloa
 
 pub said_is : (p : Payload) (step : Step) → payload_text p ++ end_text step ≡ said_word p step ++ 10 ∷ []
 unfolding said_word
-said_is p step = ap (λ t. payload_text p ++ t) (ends step).is ∙ sym (append_assoc (payload_text p) (ends step).word (10 ∷ []))
+said_is p step =
+    ap (λ t. payload_text p ++ t) (ends step).is ∙ sym (append_assoc (payload_text p) (ends step).word (10 ∷ []))
 
 -- ---- lengths
 
@@ -114,16 +149,34 @@ signed_short (pos n) = omega (arith, decimal_short n)
 signed_short (negsuc n) = omega (arith, decimal_short (suc n))
 
 context_short : (c : Context) → length (context_text c) ≤ 129
-context_short c = omega (arith, length-append (decimal c.element) (46 ∷ decimal c.serial), decimal_short c.element, decimal_short c.serial)
+context_short c =
+    omega (
+      arith,
+      length-append (decimal c.element) (46 ∷ decimal c.serial),
+      decimal_short c.element,
+      decimal_short c.serial,
+    )
 
 turn_short : (t : Tag) → length (turn_text t) ≤ 194
-turn_short t = omega (arith, length-append (context_text t.context) (35 ∷ decimal t.iteration), context_short t.context, decimal_short t.iteration)
+turn_short t =
+    omega (
+      arith,
+      length-append (context_text t.context) (35 ∷ decimal t.iteration),
+      context_short t.context,
+      decimal_short t.iteration,
+    )
 
 tag_short : (t : Tag) → length (tag_text t) ≤ 259
 tag_short t = omega (arith, length-append (turn_text t) (58 ∷ decimal t.instr), turn_short t, decimal_short t.instr)
 
 structure_short : (s : Structure) → length (structure_text s) ≤ 130
-structure_short s = omega (arith, length-append (decimal s.element) (46 ∷ decimal s.serial), decimal_short s.element, decimal_short s.serial)
+structure_short s =
+    omega (
+      arith,
+      length-append (decimal s.element) (46 ∷ decimal s.serial),
+      decimal_short s.element,
+      decimal_short s.serial,
+    )
 
 cell_short : (c : Cell) → length (cell_text c) ≤ 197
 cell_short c =
@@ -219,7 +272,8 @@ line_begins : (v : EventView) → begin_with_digit (line_text v) ≡ true
 line_begins v =
     let front = moment_text v.stamp v.element in
     begin_append (front ++ 32 ∷ payload_text v.message.payload) (end_text v.step)
-    (begin_append front (32 ∷ payload_text v.message.payload) (begin_append (decimal v.stamp) (32 ∷ decimal v.element) (decimal_begin v.stamp)))
+    (begin_append front (32 ∷ payload_text v.message.payload)
+    (begin_append (decimal v.stamp) (32 ∷ decimal v.element) (decimal_begin v.stamp)))
 
 -- the first line of a text that begins with the line of an event may be that of an event
 pub event_line : (v : EventView) (tail : List ℕ) → is_line (line_text v ++ tail) ≡ true

@@ -1,5 +1,6 @@
 -- The lines of events, and what stands behind their spaces.
-use Rattle.std.proofs.Common.{◌≡◌, ℕ, zero, suc, ◌/◌, ◌%◌, ◌==◌, Bool, true, false, cond, List, [], ◌∷◌, ◌++◌, refl, sym, ap, ◌∙◌, arith, append_assoc}
+use Rattle.std.proofs.Common.{◌≡◌, ℕ, zero, suc, ◌/◌, ◌%◌, ◌==◌, Bool, true, false, cond, List, [], ◌∷◌, ◌++◌, refl}
+use Rattle.std.proofs.Common.{sym, ap, ◌∙◌, arith, append_assoc}
 use Rattle.std.specs.Prelude.{◌||◌, codes, decimal}
 use Rattle.std.proofs.lemmas.Bool.Decides.{nat_tests}
 use Rattle.std.specs.Fmt.{digits_onto, digit_glyph, digits}
@@ -30,7 +31,8 @@ pub behind_word : (a rest : List ℕ) → IsWord a → behind (a ++ 32 ∷ rest)
 behind_word [] rest w = refl
 behind_word (b ∷ a) rest w =
     let more : List ℕ = a ++ 32 ∷ rest in
-    ap (λ c. cond c more (cond (b == 10) [] (behind more))) (no_space b w.0) ∙ ap (λ c. cond c [] (behind more)) (no_feed b w.0)
+    ap (λ c. cond c more (cond (b == 10) [] (behind more))) (no_space b w.0)
+    ∙ ap (λ c. cond c [] (behind more)) (no_feed b w.0)
     ∙ behind_word a rest w.1
 
 -- digits are a word
@@ -45,7 +47,8 @@ onto_word : (k n : ℕ) (acc : List ℕ) → IsWord acc → IsWord (digits_onto 
 onto_word zero n acc w = w
 onto_word (suc k) n acc w =
     let more : IsWord (digit_glyph false (n % 10) ∷ acc) = (glyph_no_space n, w) in
-    either_word (n / 10 == 0) (digit_glyph false (n % 10) ∷ acc) (digits_onto k 10 false (n / 10) (digit_glyph false (n % 10) ∷ acc)) more
+    either_word (n / 10 == 0) (digit_glyph false (n % 10) ∷ acc)
+    (digits_onto k 10 false (n / 10) (digit_glyph false (n % 10) ∷ acc)) more
     (onto_word k (n / 10) (digit_glyph false (n % 10) ∷ acc) more)
 
 pub decimal_word : (n : ℕ) → IsWord (decimal n)
@@ -55,7 +58,8 @@ decimal_word n = onto_word 64 n [] tt
 -- the words of a line
 words : (a b p e rest : List ℕ) → (((a ++ 32 ∷ b) ++ 32 ∷ p) ++ e) ++ rest ≡ a ++ 32 ∷ (b ++ 32 ∷ (p ++ (e ++ rest)))
 words a b p e rest =
-    append_assoc ((a ++ 32 ∷ b) ++ 32 ∷ p) e rest ∙ append_assoc (a ++ 32 ∷ b) (32 ∷ p) (e ++ rest) ∙ append_assoc a (32 ∷ b) (32 ∷ (p ++ (e ++ rest)))
+    append_assoc ((a ++ 32 ∷ b) ++ 32 ∷ p) e rest ∙ append_assoc (a ++ 32 ∷ b) (32 ∷ p) (e ++ rest)
+    ∙ append_assoc a (32 ∷ b) (32 ∷ (p ++ (e ++ rest)))
 
 -- what the line of an event says
 module _ (v : EventView) (text rest : List ℕ) (is : text ≡ line_text v ++ rest) where
@@ -72,13 +76,23 @@ module _ (v : EventView) (text rest : List ℕ) (is : text ≡ line_text v ++ re
   behind_element = ap behind behind_stamp ∙ behind_word (decimal v.element) body (decimal_word v.element)
 
   pub line_says : Says text v.message v.step
-  line_says = record { rest = rest; is = behind_element ∙ sym (append_assoc (payload_text v.message.payload) (end_text v.step) rest) }
+  line_says =
+      record {
+        rest = rest;
+        is =
+            behind_element ∙ sym (append_assoc (payload_text v.message.payload) (end_text v.step) rest);
+      }
 
   pub line_element : BeginsAt (behind text) v.element
   line_element = record { rest = body; is = behind_stamp ∙ sym (append_assoc (decimal v.element) (codes " ") body) }
 
   pub line_stamp : BeginsAt text v.stamp
-  line_stamp = record { rest = decimal v.element ++ 32 ∷ body; is = by_words ∙ sym (append_assoc (decimal v.stamp) (codes " ") _) }
+  line_stamp =
+      record {
+        rest = decimal v.element ++ 32 ∷ body;
+        is =
+            by_words ∙ sym (append_assoc (decimal v.stamp) (codes " ") _);
+      }
 
 -- and what says all of it is the line
 pub is_line : (v : EventView) (text rest : List ℕ) → BeginsAt text v.stamp → BeginsAt (behind text) v.element
@@ -86,8 +100,10 @@ pub is_line : (v : EventView) (text rest : List ℕ) → BeginsAt text v.stamp �
 is_line v text rest s e b =
     let first : text ≡ decimal v.stamp ++ 32 ∷ s.rest = s.is ∙ append_assoc (decimal v.stamp) (codes " ") s.rest in
     let second : behind text ≡ s.rest = ap behind first ∙ behind_word (decimal v.stamp) s.rest (decimal_word v.stamp) in
-    let third : behind text ≡ decimal v.element ++ 32 ∷ e.rest = e.is ∙ append_assoc (decimal v.element) (codes " ") e.rest in
-    let fourth : behind (behind text) ≡ e.rest = ap behind third ∙ behind_word (decimal v.element) e.rest (decimal_word v.element) in
+    let third : behind text ≡ decimal v.element ++ 32 ∷ e.rest =
+    e.is ∙ append_assoc (decimal v.element) (codes " ") e.rest in
+    let fourth : behind (behind text) ≡ e.rest =
+    ap behind third ∙ behind_word (decimal v.element) e.rest (decimal_word v.element) in
     let inner : s.rest ≡ decimal v.element ++ 32 ∷ (payload_text v.message.payload ++ (end_text v.step ++ rest)) =
     sym second ∙ third ∙ ap (λ x. decimal v.element ++ 32 ∷ x) (sym fourth ∙ b) in
     first ∙ ap (λ x. decimal v.stamp ++ 32 ∷ x) inner
@@ -108,4 +124,5 @@ same_end_text Stuck Stuck x y h = refl
 -- the trace of one event more
 pub trace_more : (xs : List EventView) (v : EventView) → trace_text (xs ++ v ∷ []) ≡ trace_text xs ++ line_text v
 trace_more [] v = append-nil (line_text v)
-trace_more (x ∷ xs) v = ap (λ t. line_text x ++ t) (trace_more xs v) ∙ sym (append_assoc (line_text x) (trace_text xs) (line_text v))
+trace_more (x ∷ xs) v =
+    ap (λ t. line_text x ++ t) (trace_more xs v) ∙ sym (append_assoc (line_text x) (trace_text xs) (line_text v))

@@ -1,5 +1,7 @@
 -- What was read of a trace so far, and what comes of its next line.
-use Rattle.std.proofs.Common.{◌≡◌, ◌⊎◌, inl, inr, ℕ, ◌+◌, ◌<◌, ◌==◌, ◌||◌, ◌-◌, ◌^◌, List, [], ◌∷◌, ◌++◌, Some, false, zero, suc, replicate, length, map, set, slice_get, slice_set, refl, sym, ap, ◌∙◌, subst, arith, append_assoc}
+use Rattle.std.proofs.Common.{◌≡◌, ◌⊎◌, inl, inr, ℕ, ◌+◌, ◌<◌, ◌==◌, ◌||◌, ◌-◌, ◌^◌, List, [], ◌∷◌, ◌++◌, Some, false}
+use Rattle.std.proofs.Common.{zero, suc, replicate, length, map, set, slice_get, slice_set, refl, sym, ap, ◌∙◌, subst}
+use Rattle.std.proofs.Common.{arith, append_assoc}
 use Rattle.std.specs.Prelude.{Err, IfErr, IfOk, IsFalse, Ok, Result, option_map}
 use Rattle.std.proofs.lemmas.List.{append-nil, length-append, map-set}
 use Rattle.std.proofs.lemmas.Option.{slice_get-map}
@@ -20,10 +22,12 @@ use Rattle.id_runs.specs.Legal.{IsSameBut, LeadTo, no_more}
 use Rattle.id_runs.proofs.Weights.{same_order}
 use Rattle.id_trace.specs.Traces.{end_text, handled_text, line_text, payload_text, trace_text}
 use Rattle.id_judge.specs.declared.verdict.Cause.{Cause}
-use Rattle.id_judge.specs.declared.verdict.Cause.TheVariants.{NotInFlight, OtherElement, NoStamp, OtherStamp, OtherOutcome, NoLine}
+use Rattle.id_judge.specs.declared.verdict.Cause.TheVariants.{NotInFlight, OtherElement, NoStamp, OtherStamp}
+use Rattle.id_judge.specs.declared.verdict.Cause.TheVariants.{OtherOutcome, NoLine}
 use Rattle.id_judge.specs.Verdicts.{Follows}
 use Rattle.id_judge.specs.Benches.{BenchView, Delivers, IsBench, IsEnded, number_for, world_in}
-use Rattle.id_judge.specs.Lines.{Advances, AreSmall, AreStamps, BeginsAt, Compares, IsFirstLine, IsFound, IsLegalTrace, IsLineCause, IsOther, IsSaid, IsTold, Says, behind}
+use Rattle.id_judge.specs.Lines.{Advances, AreSmall, AreStamps, BeginsAt, Compares, IsFirstLine, IsFound, IsLegalTrace}
+use Rattle.id_judge.specs.Lines.{IsLineCause, IsOther, IsSaid, IsTold, Says, behind}
 use Rattle.id_judge.specs.Ends.{is_line as may_be_line}
 use Rattle.id_judge.specs.Judging.{IsRead}
 use Rattle.id_judge.proofs.OnlyLemmas.{is_first_line, only_list}
@@ -35,8 +39,8 @@ use Rattle.id_judge.proofs.LinesLemmas.{is_line, trace_more}
 -- ---- what was read
 
 -- where what is in flight at an end is what a machine has, it is so at each end of the same events
-small_end : (g : Parts) (count : ℕ) (w x z : World) (es : List EventView) → LeadTo g count w es x → LeadTo g count w es z → AreSmall x.flight
-    → AreSmall z.flight
+small_end : (g : Parts) (count : ℕ) (w x z : World) (es : List EventView) → LeadTo g count w es x
+    → LeadTo g count w es z → AreSmall x.flight → AreSmall z.flight
 small_end g count w x z es l k small m a =
     let same : IsSameBut x z = same_end g count l z k (record { elements = refl; flight = same_order w.flight }) in
     small m (also_among m z.flight x.flight (other_order x.flight z.flight same.flight) a)
@@ -46,7 +50,8 @@ no_front [] es e = refl
 no_front (d ∷ ds) es e = cc
 
 -- a front of a list with one more is all of it, or a front of the list
-front : {A : Type 0} (xs : List A) (v : A) (ds es : List A) → xs ++ v ∷ [] ≡ ds ++ es → (xs ++ v ∷ [] ≡ ds) ⊎ ((rest : List A) × (xs ≡ ds ++ rest))
+front : {A : Type 0} (xs : List A) (v : A) (ds es : List A) → xs ++ v ∷ [] ≡ ds ++ es
+    → (xs ++ v ∷ [] ≡ ds) ⊎ ((rest : List A) × (xs ≡ ds ++ rest))
 front xs v [] es e = inr (xs, refl)
 front [] v (d ∷ []) es e = let here : v ≡ d = cc in inl (ap (λ x. x ∷ []) here)
 front [] v (d ∷ c ∷ ds) es e = cc
@@ -58,22 +63,25 @@ front (x ∷ xs) v (d ∷ ds) es e =
       | inr r ↦ inr (r.0, λ i. here i ∷ r.1 i)
     ]
 
-pub read_none : (g : Parts) (vs : List Constant) (count : ℕ) (text : List ℕ) (w : World) → w ≡ start g vs count → AreSmall w.flight
-    → IsRead g vs count text text 0 w
+pub read_none : (g : Parts) (vs : List Constant) (count : ℕ) (text : List ℕ) (w : World) → w ≡ start g vs count
+    → AreSmall w.flight → IsRead g vs count text text 0 w
 read_none g vs count text w is small =
-    let lead : LeadTo g count (start g vs count) [] w = subst (λ (x : World). LeadTo g count (start g vs count) [] x) (sym is) no_more in
+    let lead : LeadTo g count (start g vs count) [] w =
+    subst (λ (x : World). LeadTo g count (start g vs count) [] x) (sym is) no_more in
     record {
       events = [];
       many = refl;
       parts = refl;
       lead = lead;
       small = λ ds es z e l.
-          small_end g count (start g vs count) w z [] lead (subst (λ ys. LeadTo g count (start g vs count) ys z) (sym (no_front ds es e)) l) small;
+          small_end g count (start g vs count) w z [] lead
+          (subst (λ ys. LeadTo g count (start g vs count) ys z) (sym (no_front ds es e)) l) small;
     }
 
 -- one line more
-pub read_more : (g h : Parts) (vs : List Constant) (count n : ℕ) (text rest tail : List ℕ) (k : ℕ) (v : EventView) (w x : World) → h ≡ g → n ≡ count
-    → IsRead g vs count text rest k w → rest ≡ line_text v ++ tail → Follows h n w v x → AreSmall x.flight → IsRead g vs count text tail (k + 1) x
+pub read_more : (g h : Parts) (vs : List Constant) (count n : ℕ) (text rest tail : List ℕ) (k : ℕ) (v : EventView)
+    (w x : World) → h ≡ g → n ≡ count → IsRead g vs count text rest k w → rest ≡ line_text v ++ tail → Follows h n w v x
+    → AreSmall x.flight → IsRead g vs count text tail (k + 1) x
 read_more g h vs count n text rest tail k v w x graph many r line f small =
     let F : Parts → Type 0 = λ y. Follows y n w v x in
     let H : ℕ → Type 0 = λ j. Follows g j w v x in
@@ -83,7 +91,8 @@ read_more g h vs count n text rest tail k v w x graph many r line f small =
       events = r.events ++ v ∷ [];
       many = length-append r.events (v ∷ []) ∙ ap (λ j. j + 1) r.many;
       parts =
-          r.parts ∙ ap (λ t. trace_text r.events ++ t) line ∙ sym (append_assoc (trace_text r.events) (line_text v) tail)
+          r.parts ∙ ap (λ t. trace_text r.events ++ t) line
+          ∙ sym (append_assoc (trace_text r.events) (line_text v) tail)
           ∙ ap (λ t. t ++ tail) (sym (trace_more r.events v));
       lead = lead;
       small = λ ds es z e l. elim (front r.events v ds es e) [
@@ -94,17 +103,20 @@ read_more g h vs count n text rest tail k v w x graph many r line f small =
     }
 
 -- the first line from which on it is no trace
-pub read_first : (g h : Parts) (vs : List Constant) (count n : ℕ) (text rest : List ℕ) (k : ℕ) (w : World) (cause : Cause) → h ≡ g → n ≡ count
-    → IsRead g vs count text rest k w → 0 < length rest → IsLineCause h n w rest cause → (IsFalse (may_be_line rest) → cause ≡ NoLine)
+pub read_first : (g h : Parts) (vs : List Constant) (count n : ℕ) (text rest : List ℕ) (k : ℕ) (w : World)
+    (cause : Cause) → h ≡ g → n ≡ count → IsRead g vs count text rest k w → 0 < length rest
+    → IsLineCause h n w rest cause → (IsFalse (may_be_line rest) → cause ≡ NoLine)
     → IsFirstLine g vs count text k cause
 read_first g h vs count n text rest k w cause graph many r some why line =
     let F : Parts → Type 0 = λ y. IsLineCause y n w rest cause in
     let H : ℕ → Type 0 = λ j. IsLineCause g j w rest cause in
-    is_first_line g vs count text rest r.events w r.parts r.lead r.small k r.many cause (subst H many (subst F graph why)) line some
+    is_first_line g vs count text rest r.events w r.parts r.lead r.small k r.many cause
+    (subst H many (subst F graph why)) line some
 
 -- all of it
-pub read_all : (g h : Parts) (vs : List Constant) (count n : ℕ) (text : List ℕ) (k : ℕ) (w : World) (kept keeps : Keeps) (m : MachineView) → h ≡ g
-    → n ≡ count → kept ≡ keeps → IsRead g vs count text [] k w → m ≡ record { graph = h; count = n; keeps = kept; world = w }
+pub read_all : (g h : Parts) (vs : List Constant) (count n : ℕ) (text : List ℕ) (k : ℕ) (w : World) (kept keeps : Keeps)
+    (m : MachineView) → h ≡ g → n ≡ count → kept ≡ keeps → IsRead g vs count text [] k w
+    → m ≡ record { graph = h; count = n; keeps = kept; world = w }
     → (m.graph ≡ g) × (m.count ≡ count) × (m.keeps ≡ keeps) × IsLegalTrace g vs count text k m.world
 read_all g h vs count n text k w kept keeps m graph many keep r is =
     let order : IsLegalTrace g vs count text k w = record {
@@ -127,10 +139,15 @@ pub said_from : (text body : List ℕ) (m : Message) (step : Step) → body ≡ 
     → (past : List ℕ) × IsSaid body m past
 said_from text body m step here s = (
   end_text step ++ s.rest,
-  record { is = here ∙ s.is ∙ append_assoc (payload_text m.payload) (end_text step) s.rest; end = (step, record { rest = s.rest; is = refl }) },
+  record {
+    is = here ∙ s.is ∙ append_assoc (payload_text m.payload) (end_text step) s.rest;
+    end =
+        (step, record { rest = s.rest; is = refl });
+  },
 )
 
-pub says_from : (text body : List ℕ) (m : Message) (past : List ℕ) → body ≡ behind (behind text) → (s : IsSaid body m past) → Says text m s.end.0
+pub says_from : (text body : List ℕ) (m : Message) (past : List ℕ) → body ≡ behind (behind text)
+    → (s : IsSaid body m past) → Says text m s.end.0
 says_from text body m past here s = record {
   rest = s.end.1.rest;
   is =
@@ -140,8 +157,10 @@ says_from text body m past here s = record {
 
 -- no message in flight says it
 pub none_said : (g : Parts) (count : ℕ) (w : World) (text body : List ℕ) → body ≡ behind (behind text)
-    → ((m : Message) (past : List ℕ) → Among m w.flight → IsSaid body m past → ⊥) → IsLineCause g count w text NotInFlight
-none_said g count w text body here none m step among s = let r = said_from text body m step here s in none m r.0 among r.1
+    → ((m : Message) (past : List ℕ) → Among m w.flight → IsSaid body m past → ⊥)
+    → IsLineCause g count w text NotInFlight
+none_said g count w text body here none m step among s =
+    let r = said_from text body m step here s in none m r.0 among r.1
 
 module _ (b : BenchView) (text body : List ℕ) (k : ℕ) (m : Message) (past : List ℕ) (here : body ≡ behind (behind text))
     (f : IsFound b.flight body k m past) where
@@ -149,21 +168,26 @@ module _ (b : BenchView) (text body : List ℕ) (k : ℕ) (m : Message) (past : 
   flying = Among-from_at m b.flight k f.at
 
   -- it is for another element
-  pub other_element : ¬ BeginsAt (behind text) (number_for b m) → IsLineCause b.graph (length b.elements) (world_in b) text OtherElement
+  pub other_element : ¬ BeginsAt (behind text) (number_for b m)
+      → IsLineCause b.graph (length b.elements) (world_in b) text OtherElement
   other_element never = (m, f.said.end.0, flying, says_from text body m past here f.said, never)
 
-  told : BeginsAt (behind text) (number_for b m) → (s : State) → slice_get (world_in b).elements (number_for b m) ≡ Some s
+  told : BeginsAt (behind text) (number_for b m) → (s : State)
+      → slice_get (world_in b).elements (number_for b m) ≡ Some s
       → IsTold (length b.elements) (world_in b) text m f.said.end.0 s
-  told own s element = record { flying = flying; says = says_from text body m past here f.said; element = element; own = own }
+  told own s element =
+      record { flying = flying; says = says_from text body m past here f.said; element = element; own = own }
 
   -- no stamp is left for it
-  pub no_stamp_left : BeginsAt (behind text) (number_for b m) → IsEnded b m → IsLineCause b.graph (length b.elements) (world_in b) text NoStamp
+  pub no_stamp_left : BeginsAt (behind text) (number_for b m) → IsEnded b m
+      → IsLineCause b.graph (length b.elements) (world_in b) text NoStamp
   no_stamp_left own e = (
     m,
     f.said.end.0,
     e.0.state,
     told own e.0.state
-        (slice_get-map (λ (x : ElementView). x.state) b.elements (number_for b m) ∙ ap (option_map (λ (x : ElementView). x.state)) e.1),
+        (slice_get-map (λ (x : ElementView). x.state) b.elements (number_for b m)
+        ∙ ap (option_map (λ (x : ElementView). x.state)) e.1),
     e.2,
   )
 
@@ -173,7 +197,8 @@ module _ (b : BenchView) (text body : List ℕ) (k : ℕ) (m : Message) (past : 
     state = d.follows.can.state
 
     pub element_is : slice_get (world_in b).elements (number_for b m) ≡ Some state
-    element_is = ap (λ (x : Message). slice_get (world_in b).elements (number_for b x)) (sym d.of) ∙ d.follows.can.element
+    element_is =
+        ap (λ (x : Message). slice_get (world_in b).elements (number_for b x)) (sym d.of) ∙ d.follows.can.element
 
     pub left_is : is_ended state m ≡ false
     left_is = ap (is_ended state) (sym d.of) ∙ d.follows.can.left
@@ -190,7 +215,8 @@ module _ (b : BenchView) (text body : List ℕ) (k : ℕ) (m : Message) (past : 
         ∙ ap (λ (x : Message). step_of b.graph (number_for b x) state x) d.of
 
     -- and has the line
-    pub advances : (tail : List ℕ) → IsBench c → (stamp : ℕ) → stamp ≡ next_stamp state m → Compares text past stamp step tail → Advances b text tail c
+    pub advances : (tail : List ℕ) → IsBench c → (stamp : ℕ) → stamp ≡ next_stamp state m
+        → Compares text past stamp step tail → Advances b text tail c
     advances tail bench stamp next same =
         let v = d.event in
         let stamps : BeginsAt text v.stamp = subst (λ n. BeginsAt text n) (next ∙ sym stamp_is) same.stamp_is in
@@ -233,13 +259,16 @@ module _ (b : BenchView) (text body : List ℕ) (k : ℕ) (m : Message) (past : 
 -- ---- stamps
 
 -- the last stamp of an element is that of its state
-pub stamp_at : (xs : List ℕ) (w : World) (n : ℕ) (s : State) → AreStamps xs w → slice_get w.elements n ≡ Some s → slice_get xs n ≡ Some s.stamp
+pub stamp_at : (xs : List ℕ) (w : World) (n : ℕ) (s : State) → AreStamps xs w → slice_get w.elements n ≡ Some s
+    → slice_get xs n ≡ Some s.stamp
 stamp_at xs w n s are at =
-    ap (λ ys. slice_get ys n) are ∙ slice_get-map (λ (x : State). x.stamp) w.elements n ∙ ap (option_map (λ (x : State). x.stamp)) at
+    ap (λ ys. slice_get ys n) are ∙ slice_get-map (λ (x : State). x.stamp) w.elements n
+    ∙ ap (option_map (λ (x : State). x.stamp)) at
 
 -- after an event they are those of the next state
-pub stamps_after : (g : Parts) (count : ℕ) (w x : World) (v : EventView) (xs : List ℕ) (m : Message) (stamp : ℕ) → (f : Follows g count w v x)
-    → v.message ≡ m → AreStamps xs w → stamp ≡ next_stamp f.can.state m → AreStamps (set xs (route_of m.payload count) stamp) x
+pub stamps_after : (g : Parts) (count : ℕ) (w x : World) (v : EventView) (xs : List ℕ) (m : Message) (stamp : ℕ)
+    → (f : Follows g count w v x) → v.message ≡ m → AreStamps xs w → stamp ≡ next_stamp f.can.state m
+    → AreStamps (set xs (route_of m.payload count) stamp) x
 stamps_after g count w x v xs m stamp f of are next =
     let n = route_of v.message.payload count in
     let later = state_after g n f.can.state v.message in
@@ -251,18 +280,22 @@ stamps_after g count w x v xs m stamp f of are next =
     at ∙ made ∙ ap (λ (z : World). map h z.elements) f.after
 
 -- where no stamp is lacking for the message, the stamp of its element and its own are not the last
-pub left_at : (xs : List ℕ) (w : World) (n i : ℕ) (s : State) (m : Message) → AreStamps xs w → slice_get w.elements n ≡ Some s → is_ended s m ≡ false → i ≡ n
+pub left_at : (xs : List ℕ) (w : World) (n i : ℕ) (s : State) (m : Message) → AreStamps xs w
+    → slice_get w.elements n ≡ Some s → is_ended s m ≡ false → i ≡ n
     → (last : ℕ) → slice_get xs i ≡ Some last → ((last == 2 ^ 64 - 1) || (m.stamp == 2 ^ 64 - 1)) ≡ false
 left_at xs w n i s m are at left same last there =
     let is : last ≡ s.stamp = same_some last s.stamp (sym there ∙ ap (slice_get xs) same ∙ stamp_at xs w n s are at) in
     ap (λ k. (k == 2 ^ 64 - 1) || (m.stamp == 2 ^ 64 - 1)) is ∙ left
 
 -- a number at the front of what stands behind a word, and of the same text otherwise had
-pub own_from : (text second : List ℕ) (n i : ℕ) → second ≡ behind text → i ≡ n → BeginsAt second i → BeginsAt (behind text) n
+pub own_from : (text second : List ℕ) (n i : ℕ) → second ≡ behind text → i ≡ n → BeginsAt second i
+    → BeginsAt (behind text) n
 own_from text second n i is same b = subst (λ j. BeginsAt (behind text) j) same (subst (λ t. BeginsAt t i) is b)
 
-pub own_to : (text second : List ℕ) (n i : ℕ) → second ≡ behind text → i ≡ n → BeginsAt (behind text) n → BeginsAt second i
-own_to text second n i is same b = subst (λ t. BeginsAt t i) (sym is) (subst (λ j. BeginsAt (behind text) j) (sym same) b)
+pub own_to : (text second : List ℕ) (n i : ℕ) → second ≡ behind text → i ≡ n → BeginsAt (behind text) n
+    → BeginsAt second i
+own_to text second n i is same b =
+    subst (λ t. BeginsAt t i) (sym is) (subst (λ j. BeginsAt (behind text) j) (sym same) b)
 
 -- ---- answers
 
@@ -298,7 +331,8 @@ shorter v rest tail is =
     )
 
 -- at the start each last stamp is 0
-pub stamps_first : (n : ℕ) (xs : List ℕ) (w : World) → xs ≡ replicate n 0 → w.elements ≡ replicate n fresh → AreStamps xs w
+pub stamps_first : (n : ℕ) (xs : List ℕ) (w : World) → xs ≡ replicate n 0 → w.elements ≡ replicate n fresh
+    → AreStamps xs w
 stamps_first n xs w is at = is ∙ sym (zeros n) ∙ ap (map (λ (s : State). s.stamp)) (sym at)
   where
     zeros : (k : ℕ) → map (λ (s : State). s.stamp) (replicate k fresh) ≡ replicate k 0

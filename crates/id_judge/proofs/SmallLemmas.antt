@@ -1,5 +1,6 @@
 -- Messages whose tags are those that a machine has.
-use Rattle.std.proofs.Common.{◌≡◌, ◌<◌, ◌==◌, ◌∙◌, arith, Bool, true, false, ℕ, List, [], ◌∷◌, ◌++◌, inl, inr, length, get_or, swap_remove, refl, sym, subst}
+use Rattle.std.proofs.Common.{◌≡◌, ◌<◌, ◌==◌, ◌∙◌, arith, Bool, true, false, ℕ, List, [], ◌∷◌, ◌++◌, inl, inr, length}
+use Rattle.std.proofs.Common.{get_or, swap_remove, refl, sym, subst}
 use Rattle.std.proofs.lemmas.Option.{slice_get_read}
 use Rattle.std.proofs.lemmas.Bool.{eqb-true, false≢true}
 use Rattle.std.proofs.lemmas.List.{nil_from_length}
@@ -22,8 +23,8 @@ small_more xs m all one n a = elim (Among-either n xs (m ∷ []) a) [
   ]
 ]
 
-pub small_less : (xs left : List Message) (k : ℕ) (m : Message) → k < length xs → m ≡ get_or xs k m → left ≡ swap_remove xs k m → AreSmall xs
-    → AreSmall left
+pub small_less : (xs left : List Message) (k : ℕ) (m : Message) → k < length xs → m ≡ get_or xs k m
+    → left ≡ swap_remove xs k m → AreSmall xs → AreSmall left
 small_less xs left k m within is out all n a =
     let at = slice_get_read xs (length xs) k m refl within is in
     let order : InSomeOrder xs (m ∷ left) = taken_first xs left k m m is out at in

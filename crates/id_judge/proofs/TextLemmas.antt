@@ -1,5 +1,6 @@
 -- What looks at a text have told.
-use Rattle.std.proofs.Common.{◌≡◌, ◌≢◌, ◌<◌, ◌≤◌, arith, length, slice_get, ℕ, Bool, true, Bor, Option, Some, None, List, ◌++◌, refl, sym, ap, ◌∙◌, codes, subst}
+use Rattle.std.proofs.Common.{◌≡◌, ◌≢◌, ◌<◌, ◌≤◌, arith, length, slice_get, ℕ, Bool, true, Bor, Option, Some, None}
+use Rattle.std.proofs.Common.{List, ◌++◌, refl, sym, ap, ◌∙◌, codes, subst}
 use Rattle.std.specs.Prelude.{IfNone, IfSome, IsTrue, MatchOption, ◌↔◌}
 use Rattle.std.proofs.lemmas.List.{append_cancel_left}
 use Rattle.std.proofs.lemmas.Option.{slice_get_within}
@@ -15,12 +16,14 @@ use Rattle.id_judge.specs.Lines.{Begins, IsSaid}
 
 -- a look for a front
 module _ (text bytes : List ℕ) where
-  pub if_past : (r : Option (Bor (List ℕ))) → MatchOption r ((rest : List ℕ) → text ≢ bytes ++ rest) (λ x. text ≡ bytes ++ x.now)
+  pub if_past : (r : Option (Bor (List ℕ)))
+      → MatchOption r ((rest : List ℕ) → text ≢ bytes ++ rest) (λ x. text ≡ bytes ++ x.now)
       → IfSome r (λ x. text ≡ bytes ++ x.now)
   if_past None h = tt
   if_past (Some x) h = h
 
-  pub if_other : (r : Option (Bor (List ℕ))) → MatchOption r ((rest : List ℕ) → text ≢ bytes ++ rest) (λ x. text ≡ bytes ++ x.now)
+  pub if_other : (r : Option (Bor (List ℕ)))
+      → MatchOption r ((rest : List ℕ) → text ≢ bytes ++ rest) (λ x. text ≡ bytes ++ x.now)
       → IfNone r (Begins text bytes → ⊥)
   if_other None h = λ b. h b.rest b.is
   if_other (Some x) h = tt
@@ -34,14 +37,15 @@ one_end text step b = ((λ _. (step, b)), λ _. refl)
 
 -- some fault
 pub a_fault : Step
-a_fault = Fault (Operator kind.Overflow (record { context = record { element = 0; serial = 0 }; iteration = 0; instr = 0 }))
+a_fault =
+    Fault (Operator kind.Overflow (record { context = record { element = 0; serial = 0 }; iteration = 0; instr = 0 }))
 
 pub fault_end : (text : List ℕ) → Begins text (codes " fault\n") → IsTrue true ↔ IsEnd text
 unfolding a_fault
 fault_end text b = one_end text a_fault b
 
-pub last_end : (text : List ℕ) (b : Bool) → ¬ Begins text (codes "\n") → ¬ Begins text (codes " fault\n") → (IsTrue b ↔ Begins text (codes " stuck\n"))
-    → IsTrue b ↔ IsEnd text
+pub last_end : (text : List ℕ) (b : Bool) → ¬ Begins text (codes "\n") → ¬ Begins text (codes " fault\n")
+    → (IsTrue b ↔ Begins text (codes " stuck\n")) → IsTrue b ↔ IsEnd text
 last_end text b went fault h = ((λ t. (Stuck, h.0 t)), λ e. by e.0 e.1)
   where
     by : (step : Step) → Begins text (end_text step) → IsTrue b

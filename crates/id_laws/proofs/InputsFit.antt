@@ -30,15 +30,16 @@ token_port (value.Bool b) = refl
 
 module _ (P : Checked) (known : IsKnown P) (g : Parts) (number : ℕ → ℕ → ℕ) (numbered : Numbered P g number) where
   -- labels of parameters of one block take values of their kinds
-  entries_take : (h : ℕ) (bs : List ℕ) (vs : List Constant) → ((b : ℕ) → Among b bs → Among b (params_at (rows P) h)) → AreFor P bs vs
-      → AreTaken g (map (λ x. number x 0) bs) vs
+  entries_take : (h : ℕ) (bs : List ℕ) (vs : List Constant) → ((b : ℕ) → Among b bs → Among b (params_at (rows P) h))
+      → AreFor P bs vs → AreTaken g (map (λ x. number x 0) bs) vs
   entries_take h [] [] inside own = tt
   entries_take h [] (v ∷ vs) inside own = own
   entries_take h (b ∷ bs) [] inside own = own
   entries_take h (b ∷ bs) (v ∷ vs) inside own =
       let z = a_param (rows P) h (length (rows P)) b (inside b (inl refl)) in
       let of_kind = param_suits P known b v z.within (node P b) refl own.0 in
-      let kind_is : port_at P b ≡ token_kind (constant_value v) = port_is P b (constant_kind v) of_kind ∙ sym (token_port v) in (
+      let kind_is : port_at P b ≡ token_kind (constant_value v) =
+      port_is P b (constant_kind v) of_kind ∙ sym (token_port v) in (
         op_made P known g number numbered z.within (enters (z.param).is) ∙ ap (λ k. Some (Merge k)) kind_is,
         entries_take h bs vs (λ y k. inside y (inr k)) own.1,
       )
@@ -50,9 +51,11 @@ module _ (P : Checked) (known : IsKnown P) (g : Parts) (number : ℕ → ℕ →
         let main_is = the_block (source P []) g number numbered known in
         let both : b ∷ [] ≡ main_is ∷ [] = sym main ∙ main_block (source P []) g number numbered known in
         let same : b ≡ main_is = cc in
-        subst (λ (c : Block). AreTaken g c.entries vs) (sym same) (entries_take h (params_at (rows P) h) vs (λ y k. k) own));
+        subst (λ (c : Block). AreTaken g c.entries vs) (sym same)
+        (entries_take h (params_at (rows P) h) vs (λ y k. k) own));
   }
 
 -- each graph that the schemas give a program takes the inputs of the program
-pub inputs_taken : (P : Checked) → IsKnown P → (g : Parts) (vs : List Constant) → AreInputs P vs → Schemas P g → TakesInputs g vs
+pub inputs_taken : (P : Checked) → IsKnown P → (g : Parts) (vs : List Constant) → AreInputs P vs → Schemas P g
+    → TakesInputs g vs
 inputs_taken P known g vs own schemas = takes_inputs P known g schemas.number schemas.numbered vs own

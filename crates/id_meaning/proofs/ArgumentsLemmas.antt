@@ -1,5 +1,6 @@
 -- The arguments of calls, and the parameters that get their values.
-use Rattle.std.proofs.Common.{◌≡◌, inl, inr, ℕ, zero, suc, ◌+◌, ◌-◌, ◌≤◌, ◌<◌, Bool, true, false, Some, None, List, [], ◌∷◌, ◌++◌, length, if◌then◌else◌, refl}
+use Rattle.std.proofs.Common.{◌≡◌, inl, inr, ℕ, zero, suc, ◌+◌, ◌-◌, ◌≤◌, ◌<◌, Bool, true, false, Some, None, List, []}
+use Rattle.std.proofs.Common.{◌∷◌, ◌++◌, length, if◌then◌else◌, refl}
 use Rattle.std.proofs.Common.{ap, sym, ◌∙◌, arith}
 use Rattle.std.specs.Prelude.{slice_get, nat_lt, ◌&&◌}
 use Rattle.std.proofs.lemmas.Bool.{cases_lt, false≢true, lt-ltb}
@@ -26,7 +27,8 @@ past (r ∷ R) zero l = absurd (omega arith)
 past (r ∷ R) (suc n) l = past R n (omega arith)
 
 -- what is not past the last row
-pub row-within : (R : List Row) (n : ℕ) (f : Node → Bool) → f no_row.node ≡ false → f (at R n).node ≡ true → n < length R
+pub row-within : (R : List Row) (n : ℕ) (f : Node → Bool) → f no_row.node ≡ false → f (at R n).node ≡ true
+    → n < length R
 row-within R n f h k = elim (cases_lt n (length R)) [
   | inl l ↦ l
   | inr l ↦ absurd (false≢true (sym h ∙ ap (λ r. f r.node) (sym (past R n l)) ∙ k))
@@ -49,21 +51,32 @@ get-run a (suc n) k l = elim (cases_lt k n) [
 ]
 
 -- the parameter of an index is the row so far behind the head
-pub param-get : (P : Checked) (d h k : ℕ) → IsDefOf (rows P) d h → k < length (params_at (rows P) h) → slice_get (params_at (rows P) h) k ≡ Some (h + 1 + k)
+pub param-get : (P : Checked) (d h k : ℕ) → IsDefOf (rows P) d h → k < length (params_at (rows P) h)
+    → slice_get (params_at (rows P) h) k ≡ Some (h + 1 + k)
 param-get P d h k def l =
     let R = rows P in
     ap (λ xs. slice_get xs k) (params_at-run R (table_of P) h d def) ∙ get-run (h + 1) (length (params_at R h)) k l
 
 -- an argument has a parameter
-pub argument-get : (P : Checked) (m e d h k v : ℕ) → Calls P e d h → Stands P m (Arg e k v) → slice_get (params_at (rows P) h) k ≡ Some (h + 1 + k)
+pub argument-get : (P : Checked) (m e d h k v : ℕ) → Calls P e d h → Stands P m (Arg e k v)
+    → slice_get (params_at (rows P) h) k ≡ Some (h + 1 + k)
 argument-get P m e d h k v w s =
     let a = argument_call P m e k v s in
     let c = (call_row P a.call e a.count d h a.stands w).0 in
-    let def : IsDefOf (rows P) d h = record { name = w.name; result = w.result; body = w.body; within = w.definition.within; node = w.definition.node } in
+    let def : IsDefOf (rows P) d h =
+    record {
+      name = w.name;
+      result = w.result;
+      body = w.body;
+      within = w.definition.within;
+      node =
+          w.definition.node;
+    } in
     param-get P d h k def (omega (arith, a.low, c))
 
 -- the parameter at a row is that of its index
-pub get-param_row : (P : Checked) (d h k q : ℕ) → IsDefOf (rows P) d h → slice_get (params_at (rows P) h) k ≡ Some q → param_row (length (rows P)) h k ≡ Some q
+pub get-param_row : (P : Checked) (d h k q : ℕ) → IsDefOf (rows P) d h → slice_get (params_at (rows P) h) k ≡ Some q
+    → param_row (length (rows P)) h k ≡ Some q
 get-param_row P d h k q def e =
     let R = rows P in
     let c = length R in
@@ -72,7 +85,8 @@ get-param_row P d h k q def e =
     let w = (params-among R h c q (Among-from_at q (params_at R h) k e)).0 in
     let low : h < c = omega arith in
     let high : k < c - h - 1 = omega arith in
-    ap (λ t. if t && nat_lt k (c - h - 1) then Some (h + 1 + k) else None) (lt-ltb h c low) ∙ ap (λ t. if t then Some (h + 1 + k) else None)
+    ap (λ t. if t && nat_lt k (c - h - 1) then Some (h + 1 + k) else None) (lt-ltb h c low)
+    ∙ ap (λ t. if t then Some (h + 1 + k) else None)
     (lt-ltb k (c - h - 1) high) ∙ is
 
 row-some : (t : Bool) (n b : ℕ) → (if t then Some n else None) ≡ Some b → n ≡ b

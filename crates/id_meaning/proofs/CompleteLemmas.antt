@@ -8,7 +8,8 @@ use Rattle.id_table.specs.declared.row.Node.{Node}
 use Rattle.id_table.specs.declared.row.Node.TheVariants as node
 use Rattle.id_table.specs.Rows.{at}
 use Rattle.id_table.specs.Tables.{is_call, is_thing}
-use Rattle.id_table.specs.Turns.{Turns, operand, left, right, test, body, low, high, fetched, fetch_index, address_target, address_index}
+use Rattle.id_table.specs.Turns.{Turns, operand, left, right, test, body, low, high, fetched, fetch_index}
+use Rattle.id_table.specs.Turns.{address_target, address_index}
 use Rattle.id_table.specs.Turns.{statement, stored, stored_value, index_low, index_high}
 use Rattle.id_table.specs.Loops.{bounds_row}
 use Rattle.id_check.specs.Programs.{Stands, place, rows}
@@ -64,8 +65,8 @@ module _ (S : Source) (k : ℕ) (fs : List RowFact) (s : IsRound S k fs) where
     pub known : AllAmong fs premises
     pub is : f ≡ fact_of S.checked fs given
 
-  on-rises : (n a : ℕ) (P : Path) (z : Node) → Stands S.checked n z → is_thing z ≡ true → is_call z ≡ false → Turns (rows S.checked) n a
-      → Rounds S k (fact.On P (place S.checked n)) → Rises (fact.On P (place S.checked a))
+  on-rises : (n a : ℕ) (P : Path) (z : Node) → Stands S.checked n z → is_thing z ≡ true → is_call z ≡ false
+      → Turns (rows S.checked) n a → Rounds S k (fact.On P (place S.checked n)) → Rises (fact.On P (place S.checked a))
   on-rises n a P z st t c u h =
       let x = known-on S k fs s n P (node-thing S n z st t) h in
       record {
@@ -83,28 +84,32 @@ module _ (S : Source) (k : ℕ) (fs : List RowFact) (s : IsRound S k fs) where
   path-by : (i j n : ℕ) (p : Trail) → IsOnBy fs i p n → Of (Below i j) ≡ below (Of p) (place S.checked n) j
   path-by i j n p b = path-below S.checked fs s.found.before i p n j (ap path_of b.fact) (ap row_of b.fact)
 
-  below-by : (i j n : ℕ) (p : Trail) (P : Path) → IsOnBy fs i p n → P ≡ Of p → below P (place S.checked n) j ≡ Of (Below i j)
+  below-by : (i j n : ℕ) (p : Trail) (P : Path) → IsOnBy fs i p n → P ≡ Of p
+      → below P (place S.checked n) j ≡ Of (Below i j)
   below-by i j n p P b e = ap (λ q. below q (place S.checked n) j) e ∙ sym (path-by i j n p b)
 
   there-below : (i j n : ℕ) (p : Trail) → IsOnBy fs i p n → IsThere fs (Below i j)
   there-below i j n p b = record { begins = (p, (n, b.fact)); inside = b.within }
 
   -- what a binder Has where a name looks for it
-  look-known : (q : Trail) (n c : ℕ) (P : Path) (v : SourceValue) → IsThing S c → n < length (rows S.checked) → Among (On q n) fs → P ≡ Of q
-      → Rounds S k (fact.Has (without (between S n c) P) (place S.checked c) v)
-      → (w : RowValue) × (v ≡ value_at S.checked fs w) × Among (Has (out_of fs (far_from S.checked n (Some c)) q) c w) fs
+  look-known : (q : Trail) (n c : ℕ) (P : Path) (v : SourceValue) → IsThing S c → n < length (rows S.checked)
+      → Among (On q n) fs → P ≡ Of q → Rounds S k (fact.Has (without (between S n c) P) (place S.checked c) v)
+      → (w : RowValue) × (v ≡ value_at S.checked fs w)
+      × Among (Has (out_of fs (far_from S.checked n (Some c)) q) c w) fs
   look-known q n c P v t l on e h =
       let d = far_from S.checked n (Some c) in
       let z = there S k fs s (On q n) on in
       let o = out-there d q z in
       let path : without (between S n c) P ≡ Of (out_of fs d q) =
-      ap (λ j. without j P) (sym (far-between S n c l t.within)) ∙ ap (λ r. without d r) e ∙ sym (path-out S.checked fs s.found.before d q) in
+      ap (λ j. without j P) (sym (far-between S n c l t.within)) ∙ ap (λ r. without d r) e
+      ∙ sym (path-out S.checked fs s.found.before d q) in
       has-at S k fs s (out_of fs d q) c (without (between S n c) P) v o t path h
     where
       out-there : (d : ℕ) (q : Trail) → IsThere fs q → IsThere fs (out_of fs d q)
       out-there zero q i = i
       out-there (suc d) Outermost i = out-there d Outermost i
-      out-there (suc d) (Below i j) z = out-there d (path_of (fact_at fs i)) (there S k fs s (fact_at fs i) (among-at fs i z.inside))
+      out-there (suc d) (Below i j) z =
+          out-there d (path_of (fact_at fs i)) (there S k fs s (fact_at fs i) (among-at fs i z.inside))
 
   -- ---- iterations
 
@@ -124,18 +129,28 @@ module _ (S : Source) (k : ℕ) (fs : List RowFact) (s : IsRound S k fs) where
       x : IsHas S k fs s a (below P (place S.checked n) j) v
       x = known-has S k fs s a (below P (place S.checked n) j) v u h
 
-      go : (q : Trail) → below P (place S.checked n) j ≡ Of q → Among (Has q a x.value) fs → IsThere fs q → Within P n j a v
+      go : (q : Trail) → below P (place S.checked n) j ≡ Of q → Among (Has q a x.value) fs → IsThere fs q
+          → Within P n j a v
       go Outermost e w z = absurd (none-below P (place S.checked n) j (sym e))
       go (Below i m) e w z =
           let b = z.begins in
           let on : IsOnBy fs i b.0 b.1.0 = record { within = z.inside; fact = b.1.1 } in
-          let y = below-once P (Of b.0) (place S.checked n) (place S.checked b.1.0) j m (e ∙ path-by i m b.1.0 b.0 on) in
+          let y = below-once P (Of b.0) (place S.checked n) (place S.checked b.1.0) j m (e
+          ∙ path-by i m b.1.0 b.0 on) in
           let F : RowFact → Type 0 = λ f. IsOfThing S f in
           let c = subst F b.1.1 (s.found.things (fact_at fs i) (among-at fs i z.inside)) in
           let r : b.1.0 ≡ n = thing S k fs s b.1.0 n c t (sym y.1) in
           let G : ℕ → Type 0 = λ g. IsOnBy fs i b.0 g in
           let H : ℕ → Type 0 = λ g. Among (Has (Below i g) a x.value) fs in
-          record { number = i; path = b.0; on = subst G r on; outer = y.0; value = x.value; is_value = x.is_value; known = subst H (sym y.2) w }
+          record {
+            number = i;
+            path = b.0;
+            on = subst G r on;
+            outer = y.0;
+            value = x.value;
+            is_value = x.is_value;
+            known = subst H (sym y.2) w;
+          }
 
   record WithinTruth (P : Path) (n j a : ℕ) (b : Truth) : Type 0 where
     pub number : ℕ
@@ -185,8 +200,9 @@ module _ (S : Source) (k : ℕ) (fs : List RowFact) (s : IsRound S k fs) where
     pub outer : P ≡ Of path
     pub known : AllAmong fs (On path n ∷ Has path a (Int lo) ∷ Has path b (Int hi) ∷ [])
 
-  bounded : (n w x a b l : ℕ) (P : Path) (lo hi : ℤ) → ForStands S.checked n w x a b l → Rounds S k (fact.On P (place S.checked n))
-      → Rounds S k (fact.Has P (place S.checked a) (value.Int lo)) → Rounds S k (fact.Has P (place S.checked b) (value.Int hi)) → Bounded n P a b lo hi
+  bounded : (n w x a b l : ℕ) (P : Path) (lo hi : ℤ) → ForStands S.checked n w x a b l
+      → Rounds S k (fact.On P (place S.checked n)) → Rounds S k (fact.Has P (place S.checked a) (value.Int lo))
+      → Rounds S k (fact.Has P (place S.checked b) (value.Int hi)) → Bounded n P a b lo hi
   bounded n w x a b l P lo hi st on under above =
       let y = known-on S k fs s n P (loop-thing n st.head w l st.loop) on in
       let o = on-by y.0 n y.2 in
@@ -206,11 +222,13 @@ module _ (S : Source) (k : ℕ) (fs : List RowFact) (s : IsRound S k fs) where
       → Rounds S k (fact.Has (below P (place S.checked n) j) (place S.checked x) (value.Int y))
       → Rounds S k (fact.Has P (place S.checked b) (value.Int hi)) → Counted n P j x b y hi
   counted n w x a b l j P y hi st index above =
-      let r = in-iteration P n j x (value.Int y) (loop-thing n st.head w l st.loop) (node-thing S x (node.Index st.name) st.index refl) index in
+      let r = in-iteration P n j x (value.Int y) (loop-thing n st.head w l st.loop)
+      (node-thing S x (node.Index st.name) st.index refl) index in
       let F : RowValue → Type 0 = λ v. Among (Has (Below r.number j) x v) fs in
       let G : RowFact → Type 0 = λ f. Among f fs in
       let on = subst G r.on.fact (among-at fs r.number r.on.within) in
-      let u = number-at S k fs s r.path b P hi (there S k fs s (On r.path n) on) (upper-thing n w x a b l st) r.outer above in
+      let u = number-at S k fs s r.path b P hi (there S k fs s (On r.path n) on) (upper-thing n w x a b l st) r.outer
+      above in
       record {
         number = r.number;
         path = r.path;
@@ -219,8 +237,8 @@ module _ (S : Source) (k : ℕ) (fs : List RowFact) (s : IsRound S k fs) where
         known = (subst F (value-number S fs r.value y r.is_value) r.known, (u, tt));
       }
 
-  goes-rises : (n h w l j : ℕ) (P : Path) (b : Truth) {ps : List Fact} → Stands S.checked n (node.Loop h w l) → GoesOn S n w P j b ps
-      → Every (Rounds S k) ps → GoesBy n w P j b
+  goes-rises : (n h w l j : ℕ) (P : Path) (b : Truth) {ps : List Fact} → Stands S.checked n (node.Loop h w l)
+      → GoesOn S n w P j b ps → Every (Rounds S k) ps → GoesBy n w P j b
   goes-rises n h w l j P b st (rule.by_predicate {h = g} {t = t} {l = d} i ls) f =
       let x = truth-within P n i t b (loop-thing n h w l st) (test-thing S n g w t d ls) f.0 in
       record {
@@ -258,8 +276,9 @@ module _ (S : Source) (k : ℕ) (fs : List RowFact) (s : IsRound S k fs) where
         known = y.known;
       }
 
-  body-rises : (n h w l j a : ℕ) (P : Path) {ps : List Fact} → Stands S.checked n (node.Loop h w l) → GoesOn S n w P j true ps
-      → BodyTurns (rows S.checked) w a → Every (Rounds S k) ps → Rises (fact.On (below P (place S.checked n) j) (place S.checked a))
+  body-rises : (n h w l j a : ℕ) (P : Path) {ps : List Fact} → Stands S.checked n (node.Loop h w l)
+      → GoesOn S n w P j true ps → BodyTurns (rows S.checked) w a → Every (Rounds S k) ps
+      → Rises (fact.On (below P (place S.checked n) j) (place S.checked a))
   body-rises n h w l j a P st go b f =
       let x = goes-rises n h w l j P true st go f in
       record {
@@ -271,12 +290,13 @@ module _ (S : Source) (k : ℕ) (fs : List RowFact) (s : IsRound S k fs) where
       }
 
   -- a store's parts
-  store-on : (m t i x a : ℕ) (P : Path) (st : StoreStands S.checked m t i x) → Turns (rows S.checked) m a → Rounds S k (fact.On P (place S.checked m))
-      → Rises (fact.On P (place S.checked a))
+  store-on : (m t i x a : ℕ) (P : Path) (st : StoreStands S.checked m t i x) → Turns (rows S.checked) m a
+      → Rounds S k (fact.On P (place S.checked m)) → Rises (fact.On P (place S.checked a))
   store-on m t i x a P st u h = on-rises m a P (node.Store st.address x) st.store refl refl u h
 
   pub complete : {ps : List Fact} {f : Fact} → Rule S ps f → Every (Rounds S k) ps → Rises f
-  complete rule.main_on h = record { premises = []; given = On Outermost (main_body S.checked); rule = row.main; known = tt; is = refl }
+  complete rule.main_on h =
+      record { premises = []; given = On Outermost (main_body S.checked); rule = row.main; known = tt; is = refl }
   complete (rule.param_has {b = b} {c = c} i) h = record {
     premises = [];
     given = Has Outermost b (row_value c);
@@ -291,20 +311,26 @@ module _ (S : Source) (k : ℕ) (fs : List RowFact) (s : IsRound S k fs) where
         given = Has x.0 n (row_value c);
         rule = row.literal st;
         known = (x.2, tt);
-        is = ap (λ q. fact.Has q (place S.checked n) (value_of c)) x.1 ∙ ap (λ v. fact.Has (Of x.0) (place S.checked n) v) (sym (value-row S fs c));
+        is = ap (λ q. fact.Has q (place S.checked n) (value_of c)) x.1
+            ∙ ap (λ v. fact.Has (Of x.0) (place S.checked n) v) (sym (value-row S fs c));
       }
-  complete (rule.operand_on {n = n} {a = a} {o = o} {p = p} st) h = on-rises n a p (node.Unary o a) st refl refl (operand st.node) h.0
-  complete (rule.left_on {n = n} {a = a} {b = b} {o = o} {p = p} st) h = on-rises n a p (node.Binary o a b) st refl refl (left st.node) h.0
-  complete (rule.right_on {n = n} {a = a} {b = b} {o = o} {p = p} st) h = on-rises n b p (node.Binary o a b) st refl refl (right st.node) h.0
+  complete (rule.operand_on {n = n} {a = a} {o = o} {p = p} st) h =
+      on-rises n a p (node.Unary o a) st refl refl (operand st.node) h.0
+  complete (rule.left_on {n = n} {a = a} {b = b} {o = o} {p = p} st) h =
+      on-rises n a p (node.Binary o a b) st refl refl (left st.node) h.0
+  complete (rule.right_on {n = n} {a = a} {b = b} {o = o} {p = p} st) h =
+      on-rises n b p (node.Binary o a b) st refl refl (right st.node) h.0
   complete (rule.unary_has {n = n} {a = a} {o = o} {p = p} {x = x} c st e) h =
       let y = known-on S k fs s n p (node-thing S n (node.Unary o a) st refl) h.0 in
-      let z = constant-at S k fs s y.0 a p c (there S k fs s (On y.0 n) y.2) (part-thing S n a (node.Unary o a) st refl) y.1 h.1.0 in
+      let z = constant-at S k fs s y.0 a p c (there S k fs s (On y.0 n) y.2) (part-thing S n a (node.Unary o a) st refl)
+      y.1 h.1.0 in
       record {
         premises = On y.0 n ∷ Has y.0 a (row_value c) ∷ [];
         given = Has y.0 n (row_value x);
         rule = row.unary c st e;
         known = (y.2, (z, tt));
-        is = ap (λ q. fact.Has q (place S.checked n) (value_of x)) y.1 ∙ ap (λ v. fact.Has (Of y.0) (place S.checked n) v) (sym (value-row S fs x));
+        is = ap (λ q. fact.Has q (place S.checked n) (value_of x)) y.1
+            ∙ ap (λ v. fact.Has (Of y.0) (place S.checked n) v) (sym (value-row S fs x));
       }
   complete (rule.binary_has {n = n} {a = a} {b = b} {o = o} {p = p} {x = x} c d st e) h =
       let y = known-on S k fs s n p (node-thing S n (node.Binary o a b) st refl) h.0 in
@@ -316,7 +342,8 @@ module _ (S : Source) (k : ℕ) (fs : List RowFact) (s : IsRound S k fs) where
         given = Has y.0 n (row_value x);
         rule = row.binary c d st e;
         known = (y.2, (z, (w, tt)));
-        is = ap (λ q. fact.Has q (place S.checked n) (value_of x)) y.1 ∙ ap (λ v. fact.Has (Of y.0) (place S.checked n) v) (sym (value-row S fs x));
+        is = ap (λ q. fact.Has q (place S.checked n) (value_of x)) y.1
+            ∙ ap (λ v. fact.Has (Of y.0) (place S.checked n) v) (sym (value-row S fs x));
       }
   complete (rule.name_has {n = n} {x = x} {b = b} {p = p} {v = v} st e) h =
       let y = known-on S k fs s n p (node-thing S n (node.Name x) st refl) h.0 in
@@ -336,7 +363,8 @@ module _ (S : Source) (k : ℕ) (fs : List RowFact) (s : IsRound S k fs) where
   complete (rule.arm_on {n = n} {t = t} {a = a} {b = b} {p = p} c) h =
       let i = choice c in
       let y = known-on S k fs s n p (node-thing S n (node.If i.split i.then i.otherwise) i.stands refl) h.0 in
-      let z = constant-at S k fs s y.0 t p (constant.Bool b) (there S k fs s (On y.0 n) y.2) (part-thing S i.split t (node.Split t) i.splits refl) y.1 h.1.0 in
+      let z = constant-at S k fs s y.0 t p (constant.Bool b) (there S k fs s (On y.0 n) y.2)
+      (part-thing S i.split t (node.Split t) i.splits refl) y.1 h.1.0 in
       record {
         premises = On y.0 n ∷ Has y.0 t (Bool b) ∷ [];
         given = On y.0 (arm_of b i.then i.otherwise);
@@ -349,8 +377,10 @@ module _ (S : Source) (k : ℕ) (fs : List RowFact) (s : IsRound S k fs) where
       let z = node.If i.split i.then i.otherwise in
       let y = known-on S k fs s n p (node-thing S n z i.stands refl) h.0 in
       let d = there S k fs s (On y.0 n) y.2 in
-      let w = constant-at S k fs s y.0 t p (constant.Bool b) d (part-thing S i.split t (node.Split t) i.splits refl) y.1 h.1.0 in
-      let u = has-at S k fs s y.0 a p v d (part-thing S n a z i.stands (arm-part b i.then i.otherwise a i.arm)) y.1 h.1.1.0 in
+      let w = constant-at S k fs s y.0 t p (constant.Bool b) d (part-thing S i.split t (node.Split t) i.splits refl) y.1
+      h.1.0 in
+      let u = has-at S k fs s y.0 a p v d (part-thing S n a z i.stands (arm-part b i.then i.otherwise a i.arm)) y.1
+      h.1.1.0 in
       let F : ℕ → Type 0 = λ r. Among (Has y.0 r u.0) fs in
       record {
         premises = On y.0 n ∷ Has y.0 t (Bool b) ∷ Has y.0 (arm_of b i.then i.otherwise) u.0 ∷ [];
@@ -382,22 +412,26 @@ module _ (S : Source) (k : ℕ) (fs : List RowFact) (s : IsRound S k fs) where
         known = (y.2, tt);
         is = ap (λ q. fact.On q (place S.checked b)) (below-by o.0 0 n y.0 p o.1 y.1);
       }
-  complete (rule.argument_has {n = n} {e = e} {c = c} {m = m} {i = j} {v = a} {q = q} {p = p} {u = u} st t bd df par) h =
+  complete (rule.argument_has {n = n} {e = e} {c = c} {m = m} {i = j} {v = a} {q = q} {p = p} {u = u} st t bd df par)
+      h =
       let y = known-on S k fs s n p (node-thing S n (node.Call e c) st refl) h.0 in
       let o = on-by y.0 n y.2 in
-      let z = has-at S k fs s y.0 a p u (there S k fs s (On y.0 n) y.2) (part-thing S m a (node.Arg e j a) t refl) y.1 h.1.0 in
+      let z = has-at S k fs s y.0 a p u (there S k fs s (On y.0 n) y.2) (part-thing S m a (node.Arg e j a) t refl) y.1
+      h.1.0 in
       record {
         premises = On y.0 n ∷ Has y.0 a z.0 ∷ [];
         given = Has (Below o.0 0) q z.0;
         rule = row.passes st t bd df par o.1;
         known = (y.2, (z.2, tt));
-        is = ap (λ r. fact.Has r (place S.checked q) u) (below-by o.0 0 n y.0 p o.1 y.1) ∙ ap (λ w. fact.Has (Of (Below o.0 0)) (place S.checked q) w) z.1;
+        is = ap (λ r. fact.Has r (place S.checked q) u) (below-by o.0 0 n y.0 p o.1 y.1)
+            ∙ ap (λ w. fact.Has (Of (Below o.0 0)) (place S.checked q) w) z.1;
       }
   complete (rule.call_has {n = n} {e = e} {c = c} {d = d} {x = x} {h = g} {b = b} {k = j} {p = p} {u = u} st bd df) h =
       let y = known-on S k fs s n p (node-thing S n (node.Call e c) st refl) h.0 in
       let o = on-by y.0 n y.2 in
       let z =
-      has-at S k fs s (Below o.0 0) b (below p (place S.checked n) 0) u (there-below o.0 0 n y.0 o.1) (part-thing S d b (node.Def x g j b) df refl)
+      has-at S k fs s (Below o.0 0) b (below p (place S.checked n) 0) u (there-below o.0 0 n y.0 o.1)
+      (part-thing S d b (node.Def x g j b) df refl)
       (below-by o.0 0 n y.0 p o.1 y.1) h.1.0 in
       record {
         premises = On y.0 n ∷ Has (Below o.0 0) b z.0 ∷ [];
@@ -427,7 +461,8 @@ module _ (S : Source) (k : ℕ) (fs : List RowFact) (s : IsRound S k fs) where
         given = Has (Below o.0 0) m v.0;
         rule = row.enters st y e o.1;
         known = (z.2, (v.2, tt));
-        is = ap (λ r. fact.Has r (place S.checked m) u) (below-by o.0 0 n z.0 p o.1 z.1) ∙ ap (λ b. fact.Has (Of (Below o.0 0)) (place S.checked m) b) v.1;
+        is = ap (λ r. fact.Has r (place S.checked m) u) (below-by o.0 0 n z.0 p o.1 z.1)
+            ∙ ap (λ b. fact.Has (Of (Below o.0 0)) (place S.checked m) b) v.1;
       }
   complete (rule.lower_on {n = n} {w = w} {x = x} {a = a} {b = b} {l = l} {p = p} s) h =
       on-rises n a p (node.Loop s.head w l) s.loop refl refl (index_low s.loop.node s.bounds.node) h.0
@@ -451,7 +486,8 @@ module _ (S : Source) (k : ℕ) (fs : List RowFact) (s : IsRound S k fs) where
         rule = row.counts_on j s y.on e;
         known = y.known;
         is = ap (λ i. fact.Has (below p (place S.checked n) i) (place S.checked x) (value.Int (v +ℤ pos 1))) q
-            ∙ ap (λ r. fact.Has r (place S.checked x) (value.Int (v +ℤ pos 1))) (below-by y.number (j + 1) n y.path p y.on y.outer);
+            ∙ ap (λ r. fact.Has r (place S.checked x) (value.Int (v +ℤ pos 1)))
+            (below-by y.number (j + 1) n y.path p y.on y.outer);
       }
   complete (rule.turn_on {n = n} {h = g} {w = w} {t = t} {l = l} p j st) h =
       let x = truth-within p n j t true (loop-thing n g w l st.loop) (test-thing S n g w t l st) h.0 in
@@ -471,7 +507,8 @@ module _ (S : Source) (k : ℕ) (fs : List RowFact) (s : IsRound S k fs) where
   complete (rule.next_on {n = n} {h = g} {w = w} {l = l} {m = m} {o = o} {v = v} p j st go x) h =
       body-rises n g w l j v p st go (of_next x.next.within x.next.node (next-region S.checked n g w l m o v st x)) h
   complete (rule.next_has {n = n} {h = g} {w = w} {l = l} {m = m} {o = o} {v = v} {u = u} p j st y) h =
-      let x = in-iteration p n j v u (loop-thing n g w l st) (part-thing S m v (node.Next y.name y.index o v) y.next refl) h.0 in
+      let x = in-iteration p n j v u (loop-thing n g w l st)
+      (part-thing S m v (node.Next y.name y.index o v) y.next refl) h.0 in
       let e : suc j ≡ j + 1 = omega arith in
       record {
         premises = Has (Below x.number j) v x.value ∷ [];
@@ -498,15 +535,18 @@ module _ (S : Source) (k : ℕ) (fs : List RowFact) (s : IsRound S k fs) where
         given = Has x.path n x.value;
         rule = row.leads_out j st x.on;
         known = (x.known, tt);
-        is = ap (λ q. fact.Has q (place S.checked n) u) x.outer ∙ ap (λ b. fact.Has (Of x.path) (place S.checked n) b) x.is_value;
+        is = ap (λ q. fact.Has q (place S.checked n) u) x.outer
+            ∙ ap (λ b. fact.Has (Of x.path) (place S.checked n) b) x.is_value;
       }
   complete (rule.statement_on {n = n} {m = m} {x = x} {a = a} {b = b} {p = p} st i tb) h =
       on-rises n a p (node.Block b) st refl refl (statement st.node i tb.node) h.0
-  complete (rule.store_on {n = n} {m = m} {a = a} {x = x} {b = b} {p = p} st i tb) h = on-rises n m p (node.Block b) st refl refl (stored st.node i tb.node) h.0
+  complete (rule.store_on {n = n} {m = m} {a = a} {x = x} {b = b} {p = p} st i tb) h =
+      on-rises n m p (node.Block b) st refl refl (stored st.node i tb.node) h.0
   complete (rule.body_on {n = n} {b = b} {p = p} st) h = on-rises n b p (node.Block b) st refl refl (body st.node) h.0
   complete (rule.block_has {n = n} {b = b} {p = p} {v = v} st) h =
       let y = known-on S k fs s n p (node-thing S n (node.Block b) st refl) h.0 in
-      let z = has-at S k fs s y.0 b p v (there S k fs s (On y.0 n) y.2) (part-thing S n b (node.Block b) st refl) y.1 h.1.0 in
+      let z = has-at S k fs s y.0 b p v (there S k fs s (On y.0 n) y.2) (part-thing S n b (node.Block b) st refl) y.1
+      h.1.0 in
       record {
         premises = On y.0 n ∷ Has y.0 b z.0 ∷ [];
         given = Has y.0 n z.0;
@@ -521,10 +561,13 @@ module _ (S : Source) (k : ℕ) (fs : List RowFact) (s : IsRound S k fs) where
         given = Has z.path n z.value;
         rule = row.binding st;
         known = (z.known, tt);
-        is = ap (λ r. fact.Has r (place S.checked n) v) z.is_path ∙ ap (λ w. fact.Has (Of z.path) (place S.checked n) w) z.is_value;
+        is = ap (λ r. fact.Has r (place S.checked n) v) z.is_path
+            ∙ ap (λ w. fact.Has (Of z.path) (place S.checked n) w) z.is_value;
       }
-  complete (rule.bounds_low_on {n = n} {a = a} {b = b} {nested = nested} {p = p} st) h = on-rises n a p (node.Array nested a b) st refl refl (low st.node) h.0
-  complete (rule.bounds_high_on {n = n} {a = a} {b = b} {nested = nested} {p = p} st) h = on-rises n b p (node.Array nested a b) st refl refl (high st.node) h.0
+  complete (rule.bounds_low_on {n = n} {a = a} {b = b} {nested = nested} {p = p} st) h =
+      on-rises n a p (node.Array nested a b) st refl refl (low st.node) h.0
+  complete (rule.bounds_high_on {n = n} {a = a} {b = b} {nested = nested} {p = p} st) h =
+      on-rises n b p (node.Array nested a b) st refl refl (high st.node) h.0
   complete (rule.shape_made {n = n} {a = a} {b = b} {nested = nested} {p = p} {lo = lo} {hi = hi} st e) h =
       let y = known-on S k fs s n p (node-thing S n (node.Array nested a b) st refl) h.0 in
       let o = on-by y.0 n y.2 in
@@ -558,8 +601,10 @@ module _ (S : Source) (k : ℕ) (fs : List RowFact) (s : IsRound S k fs) where
     where
       called : (i n : ℕ) (q : Trail) → IsOnBy fs i q n → site (Of q) (place S.checked n) ≡ Called i
       called i n q b = sym (ap (λ g. site (Of (path_of g)) (place S.checked (row_of g))) b.fact)
-  complete (rule.fetch_target_on {n = n} {t = t} {i = i} {p = p} st) h = on-rises n t p (node.Fetch t i) st refl refl (fetched st.node) h.0
-  complete (rule.fetch_index_on {n = n} {t = t} {i = i} {p = p} st) h = on-rises n i p (node.Fetch t i) st refl refl (fetch_index st.node) h.0
+  complete (rule.fetch_target_on {n = n} {t = t} {i = i} {p = p} st) h =
+      on-rises n t p (node.Fetch t i) st refl refl (fetched st.node) h.0
+  complete (rule.fetch_index_on {n = n} {t = t} {i = i} {p = p} st) h =
+      on-rises n i p (node.Fetch t i) st refl refl (fetch_index st.node) h.0
   complete (rule.asks {n = n} {t = t} {i = i} {p = p} {s = x} {j = j} {lo = lo} {hi = hi} st e) h =
       let y = known-on S k fs s n p (node-thing S n (node.Fetch t i) st refl) h.0 in
       let d = there S k fs s (On y.0 n) y.2 in
@@ -571,13 +616,15 @@ module _ (S : Source) (k : ℕ) (fs : List RowFact) (s : IsRound S k fs) where
         given = Ask y.0 n z.0 j;
         rule = row.asked st e;
         known = (y.2, (z.2, (w, (g, tt))));
-        is = ap (λ q. ask (site q (place S.checked n)) x j) y.1 ∙ ap (λ q. ask (site (Of y.0) (place S.checked n)) q j) z.1;
+        is = ap (λ q. ask (site q (place S.checked n)) x j) y.1
+            ∙ ap (λ q. ask (site (Of y.0) (place S.checked n)) q j) z.1;
       }
   complete (rule.fetch_has {f = f} {s = x} {a = a} {j = j} {v = v}) h =
       let y = known-ask S k fs s f x j h.0 in
       let z = known-put S k fs s x j v a h.1.0 in
       let same =
-      name-once S fs s.found z.name y.name (s.found.arrays (Put z.path z.row z.name j z.value) z.known).0 (s.found.arrays (Ask y.path y.row y.name j) y.known)
+      name-once S fs s.found z.name y.name (s.found.arrays (Put z.path z.row z.name j z.value) z.known).0
+      (s.found.arrays (Ask y.path y.row y.name j) y.known)
       (sym z.is_name ∙ y.is_name) in
       let F : ℕ → Type 0 = λ i. Among (Put z.path z.row i j z.value) fs in
       record {
@@ -585,16 +632,22 @@ module _ (S : Source) (k : ℕ) (fs : List RowFact) (s : IsRound S k fs) where
         given = Has y.path y.row z.value;
         rule = row.answered;
         known = (y.known, (subst F same z.known, tt));
-        is = ap (λ b. fact.Has b.path b.place v) y.is_fetch ∙ ap (λ w. fact.Has (Of y.path) (place S.checked y.row) w) z.is_value;
+        is = ap (λ b. fact.Has b.path b.place v) y.is_fetch
+            ∙ ap (λ w. fact.Has (Of y.path) (place S.checked y.row) w) z.is_value;
       }
-  complete (rule.store_target_on {m = m} {t = t} {i = i} {x = x} {p = p} st) h = store-on m t i x t p st (address_target st.store.node st.parts.node) h.0
-  complete (rule.store_index_on {m = m} {t = t} {i = i} {x = x} {p = p} st) h = store-on m t i x i p st (address_index st.store.node st.parts.node) h.0
-  complete (rule.store_value_on {m = m} {t = t} {i = i} {x = x} {p = p} st) h = store-on m t i x x p st (stored_value st.store.node) h.0
+  complete (rule.store_target_on {m = m} {t = t} {i = i} {x = x} {p = p} st) h =
+      store-on m t i x t p st (address_target st.store.node st.parts.node) h.0
+  complete (rule.store_index_on {m = m} {t = t} {i = i} {x = x} {p = p} st) h =
+      store-on m t i x i p st (address_index st.store.node st.parts.node) h.0
+  complete (rule.store_value_on {m = m} {t = t} {i = i} {x = x} {p = p} st) h =
+      store-on m t i x x p st (stored_value st.store.node) h.0
   complete (rule.puts {m = m} {t = t} {i = i} {x = x} {p = p} {s = y} {j = j} {lo = lo} {hi = hi} {v = v} st e) h =
       let z = known-on S k fs s m p (node-thing S m (node.Store st.address x) st.store refl) h.0 in
       let d = there S k fs s (On z.0 m) z.2 in
-      let a = name-at S k fs s z.0 t p y d (part-thing S st.address t (node.Address t i) st.parts (inl refl)) z.1 h.1.0 in
-      let b = number-at S k fs s z.0 i p j d (part-thing S st.address i (node.Address t i) st.parts (inr refl)) z.1 h.1.1.0 in
+      let a = name-at S k fs s z.0 t p y d (part-thing S st.address t (node.Address t i) st.parts (inl refl)) z.1
+      h.1.0 in
+      let b = number-at S k fs s z.0 i p j d (part-thing S st.address i (node.Address t i) st.parts (inr refl)) z.1
+      h.1.1.0 in
       let c = has-at S k fs s z.0 x p v d (part-thing S m x (node.Store st.address x) st.store refl) z.1 h.1.1.1.0 in
       let g = shape-of S k fs s a.0 y lo hi (s.found.arrays (Has z.0 t (Name a.0)) a.2) a.1 h.1.1.1.1.0 in
       record {
@@ -602,6 +655,7 @@ module _ (S : Source) (k : ℕ) (fs : List RowFact) (s : IsRound S k fs) where
         given = Put z.0 m a.0 j c.0;
         rule = row.put_there st e;
         known = (z.2, (a.2, (b, (c.2, (g, tt)))));
-        is = ap (λ q. put y j v (site q (place S.checked m))) z.1 ∙ ap (λ q. put q j v (site (Of z.0) (place S.checked m))) a.1
+        is = ap (λ q. put y j v (site q (place S.checked m))) z.1
+            ∙ ap (λ q. put q j v (site (Of z.0) (place S.checked m))) a.1
             ∙ ap (λ w. put (Called a.0) j w (site (Of z.0) (place S.checked m))) c.1;
       }

@@ -1,11 +1,13 @@
 -- What stands where in a loop with an index.
-use Rattle.std.proofs.Common.{◌≡◌, inl, inr, ℕ, suc, ◌+◌, ◌-◌, ◌<◌, Some, List, length, true, refl, ap, sym, ◌∙◌, subst, arith}
+use Rattle.std.proofs.Common.{◌≡◌, inl, inr, ℕ, suc, ◌+◌, ◌-◌, ◌<◌, Some, List, length, true, refl, ap, sym, ◌∙◌, subst}
+use Rattle.std.proofs.Common.{arith}
 use Rattle.std.proofs.lemmas.Bool.{cases_lt, false≢true}
 use Rattle.id_table.specs.declared.row.Node.{Node}
 use Rattle.id_table.specs.declared.row.Node.TheVariants.{Bounds, Index, Loop, LoopHead, Start, Within}
 use Rattle.id_table.specs.declared.row.Row.{Row}
 use Rattle.id_table.specs.Rows.{at}
-use Rattle.id_table.specs.Loops.{AreBounds, Begins, IsLoop, IsLoopOf, IsTest, IsTurn, behind_count, bounds_row, depth, flag, index_row, loops_from, plainly}
+use Rattle.id_table.specs.Loops.{AreBounds, Begins, IsLoop, IsLoopOf, IsTest, IsTurn, behind_count, bounds_row, depth}
+use Rattle.id_table.specs.Loops.{flag, index_row, loops_from, plainly}
 use Rattle.id_table.specs.Loops.{predicate, right, upper_at, upper_of, with_bounds}
 use Rattle.id_table.specs.Tables.{HasNear, HasOperand, HasPart, begins_block, is_expression, is_thing, is_within}
 use Rattle.id_table.proofs.DepthLemmas.{depth-head}
@@ -52,7 +54,8 @@ module _ (P : Checked) where
   index-stands x y e = record { within = row-within R x is_thing refl (ap is_thing e); node = e }
 
   -- where an index stands behind the switches, three entries are carried on
-  three-by-index : (n h w l y : ℕ) (st : Stands P n (Loop h w l)) → (at R (index_row w)).node ≡ Index y → (loop-rows P n h w l st).carried ≡ 3
+  three-by-index : (n h w l y : ℕ) (st : Stands P n (Loop h w l)) → (at R (index_row w)).node ≡ Index y
+      → (loop-rows P n h w l st).carried ≡ 3
   three-by-index n h w l y st e =
       let c = loop-rows P n h w l st in
       three-by-test R h c.test.test c.carried c.test.test_is
@@ -65,8 +68,8 @@ module _ (P : Checked) where
       let b = st.within in
       omega (arith, k.1)
 
-  for-with : (n h w l a b y : ℕ) → Stands P n (Loop h w l) → (at R (bounds_row h)).node ≡ Bounds a b → (at R (index_row w)).node ≡ Index y
-      → ForStands P n w (index_row w) a b l
+  for-with : (n h w l a b y : ℕ) → Stands P n (Loop h w l) → (at R (bounds_row h)).node ≡ Bounds a b
+      → (at R (index_row w)).node ≡ Index y → ForStands P n w (index_row w) a b l
   for-with n h w l a b y st e f =
       let k = head-within n h w l st in
       record {
@@ -79,7 +82,8 @@ module _ (P : Checked) where
       }
 
   -- a loop that has an index has bounds
-  bounds-by-index : (n h w l y : ℕ) → Stands P n (Loop h w l) → (at R (index_row w)).node ≡ Index y → (a b : ℕ) × ((at R (bounds_row h)).node ≡ Bounds a b)
+  bounds-by-index : (n h w l y : ℕ) → Stands P n (Loop h w l) → (at R (index_row w)).node ≡ Index y
+      → (a b : ℕ) × ((at R (bounds_row h)).node ≡ Bounds a b)
   bounds-by-index n h w l y st e =
       let c = loop-rows P n h w l st in
       let d = bounds-before R c.start n c.carried c.from (three-by-index n h w l y st e) in
@@ -101,7 +105,8 @@ module _ (P : Checked) where
   start-no-bounds : (a b : ℕ) → Start ≡ Bounds a b → ⊥
   start-no-bounds a b e = cc
 
-  index-by-bounds : (n h w l a b : ℕ) → Stands P n (Loop h w l) → (at R (bounds_row h)).node ≡ Bounds a b → (y : ℕ) × ((at R (index_row w)).node ≡ Index y)
+  index-by-bounds : (n h w l a b : ℕ) → Stands P n (Loop h w l) → (at R (bounds_row h)).node ≡ Bounds a b
+      → (y : ℕ) × ((at R (index_row w)).node ≡ Index y)
   index-by-bounds n h w l a b st e = elim (cases_lt h 2) [
     | inl low ↦
         let q : bounds_row h ≡ c.start = (let f = c.begins in omega arith) in
@@ -115,14 +120,16 @@ module _ (P : Checked) where
       c : IsLoop R n h w l
       c = loop-rows P n h w l st
 
-  pub for-by-bounds : (n h w l a b : ℕ) → Stands P n (Loop h w l) → (at R (bounds_row h)).node ≡ Bounds a b → ForStands P n w (index_row w) a b l
+  pub for-by-bounds : (n h w l a b : ℕ) → Stands P n (Loop h w l) → (at R (bounds_row h)).node ≡ Bounds a b
+      → ForStands P n w (index_row w) a b l
   for-by-bounds n h w l a b st e = let i = index-by-bounds n h w l a b st e in for-with n h w l a b i.0 st e i.1
 
   -- an index of the loop's block is the loop's
   abbrev Behind : ℕ → ℕ → Type 0
   Behind x h = (m : ℕ) × (c : IsLoopOf R m h) × (index_row c.switches ≡ x)
 
-  pub for-by-index : (n h w l x y : ℕ) → Stands P n (Loop h w l) → (at R x).node ≡ Index y → (at R x).block ≡ h → (a b : ℕ) × ForStands P n w x a b l
+  pub for-by-index : (n h w l x y : ℕ) → Stands P n (Loop h w l) → (at R x).node ≡ Index y → (at R x).block ≡ h
+      → (a b : ℕ) × ForStands P n w x a b l
   for-by-index n h w l x y st e q =
       let u = index-stands x y e in
       let k = (table_of P).index_of x y u.within e in
@@ -151,7 +158,8 @@ module _ (P : Checked) where
 
     -- it waits for the upper bound
     pub index-awaits : awaited P x ≡ Some b
-    index-awaits = ap (λ z. awaited_of P x z) s.index.node ∙ ap (λ h. upper_at R h) index-block ∙ ap upper_of s.bounds.node
+    index-awaits =
+        ap (λ z. awaited_of P x z) s.index.node ∙ ap (λ h. upper_at R h) index-block ∙ ap upper_of s.bounds.node
 
     -- the upper bound stands where the loop does
     upper-block : (at R b).block ≡ (at R n).block
@@ -176,29 +184,33 @@ module _ (P : Checked) where
         let own : (at R h).block ≡ h = T.head_block h k (ap begins_block e) in
         let start : h - 1 ≡ c.start = (let f = c.begins in omega arith) in
         let D : ℕ → ℕ = λ i. loops_from R (length R) (at R i).node in
-        let same : (at R (h - 1)).block ≡ (at R b).block = ap (λ i. (at R i).block) start ∙ c.start_of.beside.block ∙ sym upper-block in
+        let same : (at R (h - 1)).block ≡ (at R b).block =
+        ap (λ i. (at R i).block) start ∙ c.start_of.beside.block ∙ sym upper-block in
         ap D (index-block ∙ sym own) ∙ depth-head R T h (h - 1) k e ∙ ap (λ i. suc (D i)) same
 
     -- and is another row
     pub upper-differs : b ≡ x → ⊥
     upper-differs e =
         let F : Node → Type 0 = λ z. HasOperand z b in
-        let k = (table_of P).operand_is (bounds_row s.head) b s.bounds.within (subst F (sym s.bounds.node) (inr refl)) in
+        let k = (table_of P).operand_is (bounds_row s.head) b s.bounds.within
+        (subst F (sym s.bounds.node) (inr refl)) in
         false≢true (sym (ap (λ j. is_expression (at R j).node) e ∙ ap is_expression s.index.node) ∙ k)
 
     upper-within : b < length R
     upper-within =
         let F : Node → Type 0 = λ z. HasPart z b in
-        let k = ((table_of P).formed.each (bounds_row s.head) s.bounds.within).parts b (subst F (sym s.bounds.node) (inr refl)) in
+        let k = ((table_of P).formed.each (bounds_row s.head) s.bounds.within).parts b
+        (subst F (sym s.bounds.node) (inr refl)) in
         let i = s.bounds.within in
         omega (arith, k.1)
 
 -- where the index of a loop looks for its upper bound
-pub upper-path : (S : Source) (n w x a b l : ℕ) (s : ForStands S.checked n w x a b l) (fs : List RowFact) (i k : ℕ) (p : Trail) → IsOnBy fs i p n
-    → out_of fs (far_from S.checked x (Some b)) (Below i k) ≡ p
+pub upper-path : (S : Source) (n w x a b l : ℕ) (s : ForStands S.checked n w x a b l) (fs : List RowFact) (i k : ℕ)
+    (p : Trail) → IsOnBy fs i p n → out_of fs (far_from S.checked x (Some b)) (Below i k) ≡ p
 upper-path S n w x a b l s fs i k p o =
     let R = rows S.checked in
     let d = deeper S.checked n w x a b l s in
     let one : depth R x - depth R b ≡ 1 = omega (arith, d) in
-    let far : far_from S.checked x (Some b) ≡ 1 = far-between S x b s.index.within (upper-within S.checked n w x a b l s) ∙ one in
+    let far : far_from S.checked x (Some b) ≡ 1 =
+    far-between S x b s.index.within (upper-within S.checked n w x a b l s) ∙ one in
     ap (λ d. out_of fs d (Below i k)) far ∙ ap path_of o.fact

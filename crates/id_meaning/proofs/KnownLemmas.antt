@@ -36,7 +36,8 @@ pub among-inside : (fs : List RowFact) → AreBefore fs → (f : RowFact) → Am
 among-inside fs b f h =
     let r = index-of f fs h in
     let F : RowFact → Type 0 = λ g. Inside (length fs) (path_of g) in
-    subst F r.2 (inside-more r.0 (length fs) (path_of (fact_at fs r.0)) (let l = r.1 in omega arith) (fact-before fs b r.0))
+    subst F r.2 (inside-more r.0 (length fs) (path_of (fact_at fs r.0)) (let l = r.1 in
+    omega arith) (fact-before fs b r.0))
 
 same-shape : (s t : Shaped) → fact.Shape s ≡ fact.Shape t → s ≡ t
 same-shape s t e = cc
@@ -65,15 +66,19 @@ module _ (S : Source) (fs : List RowFact) (a : AreFound S fs) where
   same-row : (n m : ℕ) → IsThing S n → IsThing S m → place S.checked n ≡ place S.checked m → n ≡ m
   same-row n m t u e = (apart_of S.checked).apart n m t.within u.within t.thing u.thing e
 
-  same-number : (i j n m : ℕ) (p q : Trail) → i < length fs → j < length fs → fact_at fs i ≡ On p n → fact_at fs j ≡ On q m → p ≡ q → n ≡ m → i ≡ j
+  same-number : (i j n m : ℕ) (p q : Trail) → i < length fs → j < length fs → fact_at fs i ≡ On p n
+      → fact_at fs j ≡ On q m → p ≡ q → n ≡ m → i ≡ j
   same-number i j n m p q l k d e f g = a.apart i j l k (d ∙ ap (λ r. On r n) f ∙ ap (λ r. On q r) g ∙ sym e)
 
-  once : (k : ℕ) (q r : Trail) → steps_in_all q ≤ k → IsThere fs q → IsThere fs r → all_steps S.checked fs q ≡ all_steps S.checked fs r → q ≡ r
+  once : (k : ℕ) (q r : Trail) → steps_in_all q ≤ k → IsThere fs q → IsThere fs r
+      → all_steps S.checked fs q ≡ all_steps S.checked fs r → q ≡ r
   once k Outermost Outermost l m n e = refl
   once k Outermost (Below j y) l m n e =
-      absurd (none-last (steps_of S.checked fs j (path_of (fact_at fs j))) (step_at S.checked (row_of (fact_at fs j)) y) e)
+      absurd (none-last (steps_of S.checked fs j (path_of (fact_at fs j))) (step_at S.checked (row_of (fact_at fs j)) y)
+      e)
   once k (Below i x) Outermost l m n e =
-      absurd (none-last (steps_of S.checked fs i (path_of (fact_at fs i))) (step_at S.checked (row_of (fact_at fs i)) x) (sym e))
+      absurd (none-last (steps_of S.checked fs i (path_of (fact_at fs i))) (step_at S.checked (row_of (fact_at fs i)) x)
+      (sym e))
   once zero (Below i x) (Below j y) l m n e = absurd (omega arith)
   once (suc k) (Below i x) (Below j y) l m n e =
       let P = S.checked in
@@ -85,7 +90,8 @@ module _ (S : Source) (fs : List RowFact) (a : AreFound S fs) where
       let v = there-of g (among-at fs j n.inside) in
       let w = fits i (path_of f) (fact-before fs a.before i) in
       let z =
-      last-same (all_steps P fs (path_of f)) (all_steps P fs (path_of g)) (step_at P (row_of f) x) (step_at P (row_of g) y)
+      last-same (all_steps P fs (path_of f)) (all_steps P fs (path_of g)) (step_at P (row_of f) x)
+      (step_at P (row_of g) y)
       (sym (steps-suc P fs a.before i x) ∙ e ∙ steps-suc P fs a.before j y) in
       let path : path_of f ≡ path_of g = once k (path_of f) (path_of g) (omega arith) u v z.0 in
       let s = thing-of i b.1.0 b.0 m.inside b.1.1 in
@@ -106,21 +112,26 @@ module _ (S : Source) (fs : List RowFact) (a : AreFound S fs) where
   path-once q r m n e = once (steps_in_all q) q r (omega arith) m n (ap (λ p. p.steps) e)
 
   -- a structure has one name
-  pub name-once : (i j : ℕ) → IsArrayOn S.checked fs i → IsArrayOn S.checked fs j → name_at S.checked fs i ≡ name_at S.checked fs j → i ≡ j
+  pub name-once : (i j : ℕ) → IsArrayOn S.checked fs i → IsArrayOn S.checked fs j
+      → name_at S.checked fs i ≡ name_at S.checked fs j → i ≡ j
   name-once i j x y e =
       let P = S.checked in
       let F : Trail → Type 0 = λ q. IsThere fs q in
       let u = subst F (ap path_of x.on) (there-of (fact_at fs i) (among-at fs i x.within)) in
       let v = subst F (ap path_of y.on) (there-of (fact_at fs j) (among-at fs j y.within)) in
       let same : site_at P fs x.path x.array ≡ site_at P fs y.path y.array =
-      sym (ap (λ f. site_at P fs (path_of f) (row_of f)) x.on) ∙ e ∙ ap (λ f. site_at P fs (path_of f) (row_of f)) y.on in
+      sym (ap (λ f. site_at P fs (path_of f) (row_of f)) x.on) ∙ e
+      ∙ ap (λ f. site_at P fs (path_of f) (row_of f)) y.on in
       let path = path-once x.path y.path u v (ap (λ s. s.path) same) in
-      let row = same-row x.array y.array (thing-of i x.array x.path x.within x.on) (thing-of j y.array y.path y.within y.on) (ap (λ s. s.place) same) in
+      let row =
+      same-row x.array y.array (thing-of i x.array x.path x.within x.on) (thing-of j y.array y.path y.within y.on)
+      (ap (λ s. s.place) same) in
       same-number i j x.array y.array x.path y.path x.within y.within x.on y.on path row
 
 -- ---- values
 
-pub value-constant : (S : Source) (fs : List RowFact) (w : RowValue) (c : Constant) → value_of c ≡ value_at S.checked fs w → w ≡ row_value c
+pub value-constant : (S : Source) (fs : List RowFact) (w : RowValue) (c : Constant)
+    → value_of c ≡ value_at S.checked fs w → w ≡ row_value c
 value-constant S fs (Int m) (constant.Int n) e = let q : n ≡ m = cc in ap (λ k. Int k) (sym q)
 value-constant S fs (Int m) (constant.Bool b) e = cc
 value-constant S fs (Bool c) (constant.Int n) e = cc
@@ -128,7 +139,8 @@ value-constant S fs (Bool c) (constant.Bool b) e = let q : b ≡ c = cc in ap (�
 value-constant S fs (Name i) (constant.Int n) e = cc
 value-constant S fs (Name i) (constant.Bool b) e = cc
 
-pub value-number : (S : Source) (fs : List RowFact) (w : RowValue) (n : ℤ) → value.Int n ≡ value_at S.checked fs w → w ≡ Int n
+pub value-number : (S : Source) (fs : List RowFact) (w : RowValue) (n : ℤ) → value.Int n ≡ value_at S.checked fs w
+    → w ≡ Int n
 value-number S fs w n e = value-constant S fs w (constant.Int n) e
 
 value-name : (S : Source) (fs : List RowFact) (w : RowValue) (x : Site) → value.Name x ≡ value_at S.checked fs w
@@ -149,10 +161,14 @@ module _ (S : Source) (k : ℕ) (fs : List RowFact) (s : IsRound S k fs) where
 
   -- ---- facts of the round are those of rows
 
-  pub known-on : (n : ℕ) (P : Path) → IsThing S n → Rounds S k (fact.On P (place S.checked n)) → (q : Trail) × (P ≡ Of q) × Among (On q n) fs
-  known-on n P t h = go (s.all (fact.On P (place S.checked n)) h).0 (s.all (fact.On P (place S.checked n)) h).1 (s.all (fact.On P (place S.checked n)) h).2
+  pub known-on : (n : ℕ) (P : Path) → IsThing S n → Rounds S k (fact.On P (place S.checked n))
+      → (q : Trail) × (P ≡ Of q) × Among (On q n) fs
+  known-on n P t h =
+      go (s.all (fact.On P (place S.checked n)) h).0 (s.all (fact.On P (place S.checked n)) h).1
+      (s.all (fact.On P (place S.checked n)) h).2
     where
-      go : (g : RowFact) → Among g fs → fact.On P (place S.checked n) ≡ fact_of S.checked fs g → (q : Trail) × (P ≡ Of q) × Among (On q n) fs
+      go : (g : RowFact) → Among g fs → fact.On P (place S.checked n) ≡ fact_of S.checked fs g
+          → (q : Trail) × (P ≡ Of q) × Among (On q n) fs
       go (On q m) i e =
           let a : P ≡ Of q = cc in
           let r : place S.checked n ≡ place S.checked m = cc in
@@ -170,9 +186,11 @@ module _ (S : Source) (k : ℕ) (fs : List RowFact) (s : IsRound S k fs) where
     pub is_value : v ≡ value_at S.checked fs value
     pub known : Among (Has path n value) fs
 
-  pub known-has : (n : ℕ) (P : Path) (v : SourceValue) → IsThing S n → Rounds S k (fact.Has P (place S.checked n) v) → IsHas n P v
+  pub known-has : (n : ℕ) (P : Path) (v : SourceValue) → IsThing S n → Rounds S k (fact.Has P (place S.checked n) v)
+      → IsHas n P v
   known-has n P v t h =
-      go (s.all (fact.Has P (place S.checked n) v) h).0 (s.all (fact.Has P (place S.checked n) v) h).1 (s.all (fact.Has P (place S.checked n) v) h).2 where
+      go (s.all (fact.Has P (place S.checked n) v) h).0 (s.all (fact.Has P (place S.checked n) v) h).1
+      (s.all (fact.Has P (place S.checked n) v) h).2 where
         go : (g : RowFact) → Among g fs → fact.Has P (place S.checked n) v ≡ fact_of S.checked fs g → IsHas n P v
         go (On q m) i e = cc
         go (Has q m w) i e =
@@ -180,15 +198,24 @@ module _ (S : Source) (k : ℕ) (fs : List RowFact) (s : IsRound S k fs) where
             let r : place S.checked n ≡ place S.checked m = cc in
             let u : v ≡ value_at S.checked fs w = cc in
             let F : ℕ → Type 0 = λ j. Among (Has q j w) fs in
-            record { path = q; value = w; is_path = a; is_value = u; known = subst F (sym (thing n m t (s.found.things (Has q m w) i) r)) i }
+            record {
+              path = q;
+              value = w;
+              is_path = a;
+              is_value = u;
+              known =
+                  subst F (sym (thing n m t (s.found.things (Has q m w) i) r)) i;
+            }
         go (Shape x lo hi) i e = cc
         go (Put q m x j w) i e = cc
         go (Ask q m x j) i e = cc
 
-  known-shape : (x : Site) (lo hi : ℤ) → Rounds S k (shape x lo hi) → (i : ℕ) × (x ≡ Called i) × Among (Shape i lo hi) fs
+  known-shape : (x : Site) (lo hi : ℤ) → Rounds S k (shape x lo hi)
+      → (i : ℕ) × (x ≡ Called i) × Among (Shape i lo hi) fs
   known-shape x lo hi h = go (s.all (shape x lo hi) h).0 (s.all (shape x lo hi) h).1 (s.all (shape x lo hi) h).2
     where
-      go : (g : RowFact) → Among g fs → shape x lo hi ≡ fact_of S.checked fs g → (i : ℕ) × (x ≡ Called i) × Among (Shape i lo hi) fs
+      go : (g : RowFact) → Among g fs → shape x lo hi ≡ fact_of S.checked fs g
+          → (i : ℕ) × (x ≡ Called i) × Among (Shape i lo hi) fs
       go (On q m) i e = cc
       go (Has q m w) i e = cc
       go (Shape y lw hg) i e =
@@ -255,25 +282,32 @@ module _ (S : Source) (k : ℕ) (fs : List RowFact) (s : IsRound S k fs) where
   there f h = there-of S fs s.found f h
 
   -- at a path that is there
-  pub has-at : (q : Trail) (n : ℕ) (P : Path) (v : SourceValue) → IsThere fs q → IsThing S n → P ≡ Of q → Rounds S k (fact.Has P (place S.checked n) v)
-      → (w : RowValue) × (v ≡ value_at S.checked fs w) × Among (Has q n w) fs
+  pub has-at : (q : Trail) (n : ℕ) (P : Path) (v : SourceValue) → IsThere fs q → IsThing S n → P ≡ Of q
+      → Rounds S k (fact.Has P (place S.checked n) v) → (w : RowValue) × (v ≡ value_at S.checked fs w)
+      × Among (Has q n w) fs
   has-at q n P v i t e h =
       let x = known-has n P v t h in
-      let F : Trail → Type 0 = λ r. Among (Has r n x.value) fs in
-      (x.value, x.is_value, subst F (path-once S fs s.found x.path q (there (Has x.path n x.value) x.known) i (sym x.is_path ∙ e)) x.known)
+      let F : Trail → Type 0 = λ r. Among (Has r n x.value) fs in (
+        x.value,
+        x.is_value,
+        subst F (path-once S fs s.found x.path q (there (Has x.path n x.value) x.known) i (sym x.is_path ∙ e)) x.known,
+      )
 
-  pub constant-at : (q : Trail) (n : ℕ) (P : Path) (c : Constant) → IsThere fs q → IsThing S n → P ≡ Of q → Rounds S k (fact.Has P (place S.checked n) (value_of c))
+  pub constant-at : (q : Trail) (n : ℕ) (P : Path) (c : Constant) → IsThere fs q → IsThing S n → P ≡ Of q
+      → Rounds S k (fact.Has P (place S.checked n) (value_of c))
       → Among (Has q n (row_value c)) fs
   constant-at q n P c i t e h =
       let x = has-at q n P (value_of c) i t e h in
       let F : RowValue → Type 0 = λ w. Among (Has q n w) fs in
       subst F (value-constant S fs x.0 c x.1) x.2
 
-  pub number-at : (q : Trail) (n : ℕ) (P : Path) (j : ℤ) → IsThere fs q → IsThing S n → P ≡ Of q → Rounds S k (fact.Has P (place S.checked n) (value.Int j))
+  pub number-at : (q : Trail) (n : ℕ) (P : Path) (j : ℤ) → IsThere fs q → IsThing S n → P ≡ Of q
+      → Rounds S k (fact.Has P (place S.checked n) (value.Int j))
       → Among (Has q n (Int j)) fs
   number-at q n P j i t e h = constant-at q n P (constant.Int j) i t e h
 
-  pub name-at : (q : Trail) (n : ℕ) (P : Path) (x : Site) → IsThere fs q → IsThing S n → P ≡ Of q → Rounds S k (fact.Has P (place S.checked n) (value.Name x))
+  pub name-at : (q : Trail) (n : ℕ) (P : Path) (x : Site) → IsThere fs q → IsThing S n → P ≡ Of q
+      → Rounds S k (fact.Has P (place S.checked n) (value.Name x))
       → (y : ℕ) × (x ≡ Called y) × Among (Has q n (Name y)) fs
   name-at q n P x i t e h =
       let z = has-at q n P (value.Name x) i t e h in
@@ -282,7 +316,8 @@ module _ (S : Source) (k : ℕ) (fs : List RowFact) (s : IsRound S k fs) where
       (w.0, w.2, subst F w.1 z.2)
 
   -- the structure of a Shape, by its number
-  pub shape-of : (y : ℕ) (x : Site) (lo hi : ℤ) → IsArrayOn S.checked fs y → x ≡ Called y → Rounds S k (shape x lo hi) → Among (Shape y lo hi) fs
+  pub shape-of : (y : ℕ) (x : Site) (lo hi : ℤ) → IsArrayOn S.checked fs y → x ≡ Called y → Rounds S k (shape x lo hi)
+      → Among (Shape y lo hi) fs
   shape-of y x lo hi a e h =
       let z = known-shape x lo hi h in
       let same = name-once S fs s.found z.0 y (s.found.arrays (Shape z.0 lo hi) z.2) a (sym z.1 ∙ e) in

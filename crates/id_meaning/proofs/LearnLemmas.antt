@@ -1,5 +1,6 @@
 -- What a round learns: facts behind those that are there, sound, and all that follows.
-use Rattle.std.proofs.Common.{◌≡◌, ◌⊎◌, inl, inr, ℕ, zero, suc, ◌+◌, ◌≤◌, ◌<◌, ◌&&◌, nat_lt, Bool as Truth, true, Option, None, Some}
+use Rattle.std.proofs.Common.{◌≡◌, ◌⊎◌, inl, inr, ℕ, zero, suc, ◌+◌, ◌≤◌, ◌<◌, ◌&&◌, nat_lt, Bool as Truth, true}
+use Rattle.std.proofs.Common.{Option, None, Some}
 use Rattle.std.proofs.Common.{List, [], ◌∷◌, ◌++◌, length, take, drop, get_or, refl, ap, sym, ◌∙◌, subst, arith}
 use Rattle.std.specs.Prelude.{slice_get}
 use Rattle.std.proofs.lemmas.Bool.{and_from, lt-ltb, ltb-true}
@@ -31,7 +32,8 @@ use Rattle.id_facts.specs.RowFacts.{is_path_inside, is_value_inside, path_of, ro
 use Rattle.id_facts.specs.Cells.{out_of}
 use Rattle.id_meaning.specs.Effects.{all_effects, effects}
 use Rattle.id_facts.specs.Firsts.{first_facts, input_fact, input_facts, row_value}
-use Rattle.id_facts.specs.Listed.{AreFound, BeginsOn, IsArrayOn, IsOfThing, IsPart, IsRound, NamesArray, NamesArrays, fact_of, name_at, path_at}
+use Rattle.id_facts.specs.Listed.{AreFound, BeginsOn, IsArrayOn, IsOfThing, IsPart, IsRound, NamesArray, NamesArrays}
+use Rattle.id_facts.specs.Listed.{fact_of, name_at, path_at}
 use Rattle.id_facts.specs.Listed.{site_at, value_at}
 use Rattle.id_meaning.specs.Following.{Goes}
 use Rattle.id_meaning.specs.Read.{Read}
@@ -45,7 +47,8 @@ use Rattle.id_meaning.proofs.RulesLemmas.{AllAmong, RowGoesOn, RowRule, sound}
 use Rattle.id_facts.proofs.FactsLemmas.{IsOnBy}
 use Rattle.id_meaning.proofs.RulesLemmas as row
 use Rattle.id_facts.proofs.WaitsLemmas.{out-grown}
-use Rattle.id_facts.proofs.LearntLemmas.{both, path-there, there-path, inside-path, among-within, AreApart, Learns, wide, kept, learns-so, all_learnt-append}
+use Rattle.id_facts.proofs.LearntLemmas.{both, path-there, there-path, inside-path, among-within, AreApart, Learns}
+use Rattle.id_facts.proofs.LearntLemmas.{wide, kept, learns-so, all_learnt-append}
 
 pub all_effects-append : (P : Checked) (l : Links) (W : Queues) (c : Cells) (fs gs : List RowFact)
     → all_effects P l W c (fs ++ gs) ≡ all_effects P l W c fs ++ all_effects P l W c gs
@@ -62,26 +65,32 @@ pub record Arises (S : Source) (fs : List RowFact) (x : RowFact) : Type 0 where
   pub rule : RowRule S fs premises x
   pub known : AllAmong fs premises
 
-value-there : (P : Checked) (fs : List RowFact) (v : RowValue) → NamesArray P fs v → is_value_inside (length fs) v ≡ true
+value-there : (P : Checked) (fs : List RowFact) (v : RowValue) → NamesArray P fs v
+    → is_value_inside (length fs) v ≡ true
 value-there P fs (Int k) h = refl
 value-there P fs (Bool b) h = refl
 value-there P fs (Name i) h = lt-ltb i (length fs) h.within
 
 -- a fact speaks of what is there, where its path is and its structures are
-fact-there : (P : Checked) (fs : List RowFact) (f : RowFact) → Inside (length fs) (path_of f) → NamesArrays P fs f → is_inside (length fs) f ≡ true
+fact-there : (P : Checked) (fs : List RowFact) (f : RowFact) → Inside (length fs) (path_of f) → NamesArrays P fs f
+    → is_inside (length fs) f ≡ true
 fact-there P fs (On p n) i h = path-there (length fs) p i
 fact-there P fs (Has p n v) i h =
-    and_from (is_path_inside (length fs) p) (is_value_inside (length fs) v) (path-there (length fs) p i) (value-there P fs v h)
+    and_from (is_path_inside (length fs) p) (is_value_inside (length fs) v) (path-there (length fs) p i)
+    (value-there P fs v h)
 fact-there P fs (Shape s lo hi) i h = lt-ltb s (length fs) h.within
 fact-there P fs (Put p n s j v) i h =
-    let a = and_from (is_path_inside (length fs) p) (nat_lt s (length fs)) (path-there (length fs) p i) (lt-ltb s (length fs) h.0.within) in
-    and_from (is_path_inside (length fs) p && nat_lt s (length fs)) (is_value_inside (length fs) v) a (value-there P fs v h.1)
+    let a = and_from (is_path_inside (length fs) p) (nat_lt s (length fs)) (path-there (length fs) p i)
+    (lt-ltb s (length fs) h.0.within) in
+    and_from (is_path_inside (length fs) p && nat_lt s (length fs)) (is_value_inside (length fs) v) a
+    (value-there P fs v h.1)
 fact-there P fs (Ask p n s j) i h =
-    and_from (is_path_inside (length fs) p) (nat_lt s (length fs)) (path-there (length fs) p i) (lt-ltb s (length fs) h.within)
+    and_from (is_path_inside (length fs) p) (nat_lt s (length fs)) (path-there (length fs) p i)
+    (lt-ltb s (length fs) h.within)
 
 -- the path of what follows is there
-rule-path : (S : Source) (fs : List RowFact) → AreBefore fs → {gs : List RowFact} {x : RowFact} → RowRule S fs gs x → AllAmong fs gs
-    → Inside (length fs) (path_of x)
+rule-path : (S : Source) (fs : List RowFact) → AreBefore fs → {gs : List RowFact} {x : RowFact} → RowRule S fs gs x
+    → AllAmong fs gs → Inside (length fs) (path_of x)
 rule-path S fs b row.main h = tt
 rule-path S fs b (row.input i) h = tt
 rule-path S fs b (row.turned {p = p} {n = n} l u) h = among-inside fs b (On p n) h.0
@@ -114,7 +123,8 @@ rule-path S fs b (row.leads_out {p = p} {n = n} {i = i} k ls o) h =
     let F : RowFact → Type 0 = λ g. Among g fs in among-inside fs b (On p n) (subst F o.fact (among-at fs i o.within))
 
 -- what follows speaks of what is there
-pub arisen-inside : (S : Source) (k : ℕ) (fs : List RowFact) (s : IsRound S k fs) (x : RowFact) → Arises S fs x → is_inside (length fs) x ≡ true
+pub arisen-inside : (S : Source) (k : ℕ) (fs : List RowFact) (s : IsRound S k fs) (x : RowFact) → Arises S fs x
+    → is_inside (length fs) x ≡ true
 arisen-inside S k fs s x a =
     fact-there S.checked fs x (rule-path S fs s.found.before a.rule a.known) (sound S k fs s a.rule a.known).1
 
@@ -125,7 +135,8 @@ module _ (P : Checked) (fs news : List RowFact) (b : AreBefore fs) where
   name-grown i l =
       let q = path_of (fact_at fs i) in
       ap (λ f. site_at P (fs ++ news) (path_of f) (row_of f)) (at-front fs news i l)
-      ∙ ap (λ p. site p (place P (row_of (fact_at fs i)))) (path-grown P fs news b q (inside-more i (length fs) q (omega arith) (fact-before fs b i)))
+      ∙ ap (λ p. site p (place P (row_of (fact_at fs i))))
+      (path-grown P fs news b q (inside-more i (length fs) q (omega arith) (fact-before fs b i)))
 
   value-grown : (v : RowValue) → is_value_inside (length fs) v ≡ true → value_at P (fs ++ news) v ≡ value_at P fs v
   value-grown (Int k) h = refl
@@ -146,7 +157,8 @@ module _ (P : Checked) (fs news : List RowFact) (b : AreBefore fs) where
   fact-grown (Put p n s j v) h =
       let a = both (is_path_inside (length fs) p && nat_lt s (length fs)) (is_value_inside (length fs) v) h in
       let c = both (is_path_inside (length fs) p) (nat_lt s (length fs)) a.0 in
-      ap (λ x. put x j (value_at P (fs ++ news) v) (site_at P (fs ++ news) p n)) (name-grown s (ltb-true s (length fs) c.1))
+      ap (λ x. put x j (value_at P (fs ++ news) v) (site_at P (fs ++ news) p n))
+      (name-grown s (ltb-true s (length fs) c.1))
       ∙ ap (λ w. put (name_at P fs s) j w (site_at P (fs ++ news) p n)) (value-grown v a.1)
       ∙ ap (λ q. put (name_at P fs s) j (value_at P fs v) (site q (place P n))) (path-same p c.0)
   fact-grown (Ask p n s j) h =
@@ -184,7 +196,8 @@ module _ (P : Checked) (fs news : List RowFact) (b : AreBefore fs) where
 
 -- ---- what is known after a round
 
-module _ (S : Source) (k : ℕ) (fs ds es : List RowFact) (s : IsRound S k fs) (rises : (x : RowFact) → Among x es → Arises S fs x) (l : Learns fs ds es) where
+module _ (S : Source) (k : ℕ) (fs ds es : List RowFact) (s : IsRound S k fs) (rises : (x : RowFact) → Among x es
+    → Arises S fs x) (l : Learns fs ds es) where
   -- all that follows is there then
   pub learnt-has : (x : RowFact) → Among x es → Among x ds
   learnt-has x h = l.all x h (arisen-inside S k fs s x (rises x h))
@@ -231,7 +244,8 @@ module _ (S : Source) (k : ℕ) (fs ds es : List RowFact) (s : IsRound S k fs) (
     begin = λ x h.
         (let t = is-next x h in
         let F : List RowFact → Type 0 = λ xs. BeginsOn xs (path_of x) in
-        subst F (sym l.grows) (begins-grown S.checked fs l.news s.found.before (path_of x) (inside-path (length fs) x t.inside) t.begins));
+        subst F (sym l.grows)
+        (begins-grown S.checked fs l.news s.found.before (path_of x) (inside-path (length fs) x t.inside) t.begins));
     before = l.before s.found.before;
     apart = l.apart s.found.apart;
   }
@@ -279,10 +293,13 @@ module _ (S : Source) (fs ds news : List RowFact) (grows : ds ≡ fs ++ news) (b
   on-below {i} o l = record { within = l; fact = sym (front-at i l) ∙ o.fact }
 
   -- and so is a loop that goes on or not by old facts
-  on-going : {n w k i : ℕ} {p : Trail} {t : Truth} {gs : List RowFact} → IsOnBy ds i p n → RowGoesOn S n w p i k t gs → AllAmong fs gs → IsOnBy fs i p n
-  on-going {i = i} {t = u} o (row.by_predicate {t = t} k ls) h = on-below o (among-inside fs b (Has (Below i k) t (Bool u)) h.0)
+  on-going : {n w k i : ℕ} {p : Trail} {t : Truth} {gs : List RowFact} → IsOnBy ds i p n → RowGoesOn S n w p i k t gs
+      → AllAmong fs gs → IsOnBy fs i p n
+  on-going {i = i} {t = u} o (row.by_predicate {t = t} k ls) h =
+      on-below o (among-inside fs b (Has (Below i k) t (Bool u)) h.0)
   on-going o (row.by_bounds st e) h = on-before o h.0
-  on-going {i = i} o (row.by_index {x = x} {j = j} k st e) h = on-below o (among-inside fs b (Has (Below i k) x (Int j)) h.0)
+  on-going {i = i} o (row.by_index {x = x} {j = j} k st e) h =
+      on-below o (among-inside fs b (Has (Below i k) x (Int j)) h.0)
 
   -- a rule gives of old facts what it gave before
   pub rule-before : {gs : List RowFact} {x : RowFact} → RowRule S ds gs x → AllAmong fs gs → RowRule S fs gs x
@@ -317,11 +334,14 @@ module _ (S : Source) (fs ds news : List RowFact) (grows : ds ≡ fs ++ news) (b
   rule-before (row.counts_first st o e) h = row.counts_first st (on-before o h.0) e
   rule-before (row.counts_on {x = x} {i = i} {j = j} k st o e) h =
       row.counts_on k st (on-below o (among-inside fs b (Has (Below i k) x (Int j)) h.0)) e
-  rule-before (row.again {t = t} {i = i} k ls o) h = row.again k ls (on-below o (among-inside fs b (Has (Below i k) t (Bool true)) h.0))
+  rule-before (row.again {t = t} {i = i} k ls o) h =
+      row.again k ls (on-below o (among-inside fs b (Has (Below i k) t (Bool true)) h.0))
   rule-before (row.runs k st o g y) h = row.runs k st (on-going o g h) g y
   rule-before (row.leaves k st o g) h = row.leaves k st (on-going o g h) g
-  rule-before (row.hands {v = v} {i = i} {u = u} k ls y o) h = row.hands k ls y (on-below o (among-inside fs b (Has (Below i k) v u) h.0))
-  rule-before (row.leads_out {l = l} {i = i} {u = u} k ls o) h = row.leads_out k ls (on-below o (among-inside fs b (Has (Below i k) l u) h.0))
+  rule-before (row.hands {v = v} {i = i} {u = u} k ls y o) h =
+      row.hands k ls y (on-below o (among-inside fs b (Has (Below i k) v u) h.0))
+  rule-before (row.leads_out {l = l} {i = i} {u = u} k ls o) h =
+      row.leads_out k ls (on-below o (among-inside fs b (Has (Below i k) l u) h.0))
 
   -- all of these are old facts, or one of them is new
   pub old-or-new : (gs : List RowFact) → AllAmong ds gs → AllAmong fs gs ⊎ ((g : RowFact) × Among g gs × Among g news)
@@ -334,7 +354,8 @@ module _ (S : Source) (fs ds news : List RowFact) (grows : ds ≡ fs ++ news) (b
       ]
 
   -- what follows did so before, or by a premise that is new
-  pub arises-old-or-new : (x : RowFact) (r : Arises S ds x) → Arises S fs x ⊎ ((g : RowFact) × Among g r.premises × Among g news)
+  pub arises-old-or-new : (x : RowFact) (r : Arises S ds x)
+      → Arises S fs x ⊎ ((g : RowFact) × Among g r.premises × Among g news)
   arises-old-or-new x r = elim (old-or-new r.premises r.known) [
     | inl i ↦ inl (record { premises = r.premises; rule = rule-before r.rule i; known = i })
     | inr i ↦ inr i
@@ -342,17 +363,19 @@ module _ (S : Source) (fs ds news : List RowFact) (grows : ds ≡ fs ++ news) (b
 
 -- ---- before the first round
 
-some-input : (b : ℕ) (o : Option Constant) (c : Constant) → o ≡ Some c → Among (Has Outermost b (row_value c)) (input_fact b o)
+some-input : (b : ℕ) (o : Option Constant) (c : Constant) → o ≡ Some c
+    → Among (Has Outermost b (row_value c)) (input_fact b o)
 some-input b None c h = cc
 some-input b (Some d) c h = let e : c ≡ d = cc in inl (ap (λ x. Has Outermost b (row_value x)) e)
 
-input-some : (b : ℕ) (o : Option Constant) (f : RowFact) → Among f (input_fact b o) → (c : Constant) × (o ≡ Some c) × (f ≡ Has Outermost b (row_value c))
+input-some : (b : ℕ) (o : Option Constant) (f : RowFact) → Among f (input_fact b o)
+    → (c : Constant) × (o ≡ Some c) × (f ≡ Has Outermost b (row_value c))
 input-some b None f h = absurd h
 input-some b (Some c) f (inl q) = (c, refl, q)
 input-some b (Some c) f (inr h) = absurd h
 
-input-among : (n : ℕ) (bs : List ℕ) (ks : List Constant) (j b : ℕ) (c : Constant) → slice_get bs j ≡ Some b → slice_get ks (n + j) ≡ Some c
-    → Among (Has Outermost b (row_value c)) (input_facts n bs ks)
+input-among : (n : ℕ) (bs : List ℕ) (ks : List Constant) (j b : ℕ) (c : Constant) → slice_get bs j ≡ Some b
+    → slice_get ks (n + j) ≡ Some c → Among (Has Outermost b (row_value c)) (input_facts n bs ks)
 input-among n [] ks j b c h k = cc
 input-among n (d ∷ bs) ks zero b c h k =
     let e : b ≡ d = cc in
@@ -367,10 +390,13 @@ input-among n (d ∷ bs) ks (suc j) b c h k =
     (input-among (suc n) bs ks j b c h (ap (λ i. slice_get ks i) q ∙ k))
 
 input-only : (n : ℕ) (bs : List ℕ) (ks : List Constant) (f : RowFact) → Among f (input_facts n bs ks)
-    → (j : ℕ) × (b : ℕ) × (c : Constant) × (slice_get bs j ≡ Some b) × (slice_get ks (n + j) ≡ Some c) × (f ≡ Has Outermost b (row_value c))
+    → (j : ℕ) × (b : ℕ) × (c : Constant) × (slice_get bs j ≡ Some b) × (slice_get ks (n + j) ≡ Some c)
+    × (f ≡ Has Outermost b (row_value c))
 input-only n [] ks f h = absurd h
 input-only n (d ∷ bs) ks f h = elim (Among-either f (input_fact d (slice_get ks n)) (input_facts (suc n) bs ks) h) [
-  | inl i ↦ let r = input-some d (slice_get ks n) f i in let q : n + 0 ≡ n = omega arith in (0, d, r.0, refl, ap (λ j. slice_get ks j) q ∙ r.1, r.2)
+  | inl i ↦ let r =
+      input-some d (slice_get ks n) f i in let q : n + 0 ≡ n =
+      omega arith in (0, d, r.0, refl, ap (λ j. slice_get ks j) q ∙ r.1, r.2)
   | inr i ↦ let r = input-only (suc n) bs ks f i in let q : n + suc r.0 ≡ suc n + r.0 = omega arith in
       (suc r.0, r.1, r.2, r.3, ap (λ j. slice_get ks j) q ∙ r.4, r.5)
 ]
@@ -384,21 +410,25 @@ module _ (S : Source) where
   first-arises x (inr h) =
       let r = input-only 0 (main_params S.checked) S.inputs x h in
       let q : 0 + r.0 ≡ r.0 = omega arith in
-      let i : IsInput S r.1 r.2 = record { number = r.0; param = r.3; value = ap (λ j. slice_get S.inputs j) (sym q) ∙ r.4 } in
+      let i : IsInput S r.1 r.2 =
+      record { number = r.0; param = r.3; value = ap (λ j. slice_get S.inputs j) (sym q) ∙ r.4 } in
       let F : RowFact → Type 0 = λ g. Arises S [] g in
       subst F (sym r.5) (record { premises = []; rule = row.input i; known = tt })
 
   -- a loop goes on or not by some fact
-  goes-none : {n w k i : ℕ} {p : Trail} {t : Truth} {gs : List RowFact} → RowGoesOn S n w p i k t gs → AllAmong [] gs → ⊥
+  goes-none : {n w k i : ℕ} {p : Trail} {t : Truth} {gs : List RowFact} → RowGoesOn S n w p i k t gs → AllAmong [] gs
+      → ⊥
   goes-none (row.by_predicate k ls) h = h.0
   goes-none (row.by_bounds st e) h = h.0
   goes-none (row.by_index k st e) h = h.0
 
-  from-none : {gs : List RowFact} {x : RowFact} → RowRule S [] gs x → AllAmong [] gs → Among x (first_facts S.checked S.inputs)
+  from-none : {gs : List RowFact} {x : RowFact} → RowRule S [] gs x → AllAmong [] gs
+      → Among x (first_facts S.checked S.inputs)
   from-none row.main h = inl refl
   from-none (row.input {n = n} {c = c} i) h =
       let q : i.number ≡ 0 + i.number = omega arith in
-      inr (input-among 0 (main_params S.checked) S.inputs i.number n c i.param (ap (λ j. slice_get S.inputs j) (sym q) ∙ i.value))
+      inr (input-among 0 (main_params S.checked) S.inputs i.number n c i.param (ap (λ j. slice_get S.inputs j) (sym q)
+      ∙ i.value))
   from-none (row.runs k st o g b) h = absurd (goes-none g h)
   from-none (row.leaves k st o g) h = absurd (goes-none g h)
   from-none _ h = absurd h.0
@@ -425,7 +455,8 @@ module _ (S : Source) where
   first-round ds e =
       let es = first_facts S.checked S.inputs in
       let l = learns-so [] ds es e in
-      learnt-round S 0 [] ds es none-round first-arises l (λ x a. learnt-has S 0 [] ds es none-round first-arises l x (first-all x a))
+      learnt-round S 0 [] ds es none-round first-arises l
+      (λ x a. learnt-has S 0 [] ds es none-round first-arises l x (first-all x a))
 
 -- ---- what has been learnt of a round so far
 
@@ -437,11 +468,14 @@ module _ (P : Checked) (l : Links) (W : Queues) (c : Cells) (gs fs : List RowFac
   one-more : (i : ℕ) (f d : RowFact) → i < length gs → f ≡ get_or gs i d
       → all_effects P l W c (take (suc i) gs) ≡ all_effects P l W c (take i gs) ++ effects P l W c f
   one-more i f d k e =
-      ap (λ xs. all_effects P l W c xs) (take-suc gs i d k) ∙ all_effects-append P l W c (take i gs) (get_or gs i d ∷ [])
-      ∙ ap (λ xs. all_effects P l W c (take i gs) ++ xs) (append-nil (effects P l W c (get_or gs i d)) ∙ ap (λ g. effects P l W c g) (sym e))
+      ap (λ xs. all_effects P l W c xs) (take-suc gs i d k)
+      ∙ all_effects-append P l W c (take i gs) (get_or gs i d ∷ [])
+      ∙ ap (λ xs. all_effects P l W c (take i gs) ++ xs) (append-nil (effects P l W c (get_or gs i d))
+      ∙ ap (λ g. effects P l W c g) (sym e))
 
-  pub gone-next : (i j : ℕ) (f d : RowFact) (ds bs old new found : List RowFact) → i < length gs → j ≡ suc i → f ≡ get_or gs i d → Gone i ds
-      → old ≡ [] → new ≡ old ++ effects P l W c f → found ≡ new → bs ≡ all_learnt ds found → Gone j bs
+  pub gone-next : (i j : ℕ) (f d : RowFact) (ds bs old new found : List RowFact) → i < length gs → j ≡ suc i
+      → f ≡ get_or gs i d → Gone i ds → old ≡ [] → new ≡ old ++ effects P l W c f → found ≡ new
+      → bs ≡ all_learnt ds found → Gone j bs
   gone-next i j f d ds bs old new found k q e g none more these b =
       let xs = all_effects P l W c (take i gs) in
       let ys = effects P l W c f in
@@ -454,10 +488,19 @@ module _ (P : Checked) (l : Links) (W : Queues) (c : Cells) (gs fs : List RowFac
   read = record { checked = P; links = l; waits = W; cells = c }
 
   pub gone-full : (i : ℕ) (ds : List RowFact) → Gone i ds → 1000000 < length ds → Goes read gs fs ds
-  gone-full i ds g k = record { front = take i gs; rest = drop i gs; parts = sym (take-append-drop i gs); facts = g; done = inr k }
+  gone-full i ds g k =
+      record { front = take i gs; rest = drop i gs; parts = sym (take-append-drop i gs); facts = g; done = inr k }
 
   pub gone-all : (i : ℕ) (ds : List RowFact) → Gone i ds → length gs ≤ i → Goes read gs fs ds
-  gone-all i ds g k = record { front = take i gs; rest = drop i gs; parts = sym (take-append-drop i gs); facts = g; done = inl (drop-all gs i k) }
+  gone-all i ds g k =
+      record {
+        front = take i gs;
+        rest = drop i gs;
+        parts = sym (take-append-drop i gs);
+        facts = g;
+        done =
+            inl (drop-all gs i k);
+      }
     where
       drop-all : (xs : List RowFact) (i : ℕ) → length xs ≤ i → drop i xs ≡ []
       drop-all [] zero l = refl

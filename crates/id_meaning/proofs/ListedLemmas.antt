@@ -1,5 +1,6 @@
 -- The list of the facts of a round has each of them once, in order.
-use Rattle.std.proofs.Common.{◌≡◌, inl, inr, ℕ, zero, suc, ◌≤◌, ◌<◌, Bool as Truth, true, false, List, [], ◌∷◌, length, get_or}
+use Rattle.std.proofs.Common.{◌≡◌, inl, inr, ℕ, zero, suc, ◌≤◌, ◌<◌, Bool as Truth, true, false, List, [], ◌∷◌, length}
+use Rattle.std.proofs.Common.{get_or}
 use Rattle.std.proofs.Common.{refl, ap, sym, ◌∙◌, subst, arith}
 use Rattle.std.specs.Prelude.{IsPermutation, Contains}
 use Rattle.std.specs.List.{IsDistinct}
@@ -23,7 +24,8 @@ use Rattle.id_source.specs.Sources.{Source}
 use Rattle.id_source.specs.Rounds.{Rounds}
 use Rattle.id_source.specs.Computed.{AreFacts, HasMoreFacts}
 use Rattle.id_facts.specs.RowFacts.{fact_at}
-use Rattle.id_facts.specs.Listed.{AreFound, AreShown, IsPart, IsRound, NamesArray, fact_of, facts_in, name_at, path_at, value_at}
+use Rattle.id_facts.specs.Listed.{AreFound, AreShown, IsPart, IsRound, NamesArray, fact_of, facts_in, name_at, path_at}
+use Rattle.id_facts.specs.Listed.{value_at}
 use Rattle.id_source.specs.Things.{IsThing}
 use Rattle.id_source.proofs.CheckedLemmas.{apart_of}
 use Rattle.id_meaning.proofs.KnownLemmas.{IsThere, name-once, path-once, there-of}
@@ -53,7 +55,8 @@ module _ (P : Checked) (fs : List RowFact) where
   in-all f (g ∷ gs) (inl e) = inl (ap (λ x. fact_of P fs x) e)
   in-all f (g ∷ gs) (inr h) = inr (in-all f gs h)
 
-  in-only : (x : Fact) (gs : List RowFact) → Among x (facts_in P fs gs) → (f : RowFact) × Among f gs × (x ≡ fact_of P fs f)
+  in-only : (x : Fact) (gs : List RowFact) → Among x (facts_in P fs gs)
+      → (f : RowFact) × Among f gs × (x ≡ fact_of P fs f)
   in-only x [] h = absurd h
   in-only x (g ∷ gs) (inl e) = (g, inl refl, e)
   in-only x (g ∷ gs) (inr h) = let r = in-only x gs h in (r.0, inr r.1, r.2)
@@ -62,7 +65,8 @@ module _ (P : Checked) (fs : List RowFact) where
   facts-count [] = refl
   facts-count (g ∷ gs) = let r = facts-count gs in omega (arith, r)
 
-  in-at : (gs : List RowFact) (i : ℕ) (d : Fact) → i < length gs → get_or (facts_in P fs gs) i d ≡ fact_of P fs (fact_at gs i)
+  in-at : (gs : List RowFact) (i : ℕ) (d : Fact) → i < length gs
+      → get_or (facts_in P fs gs) i d ≡ fact_of P fs (fact_at gs i)
   in-at [] i d l = absurd (omega arith)
   in-at (g ∷ gs) zero d l = refl
   in-at (g ∷ gs) (suc i) d l = in-at gs i d (omega arith)
@@ -89,7 +93,8 @@ module _ (S : Source) (fs : List RowFact) (a : AreFound S fs) where
   trail-once : (p q : Trail) → IsThere fs p → IsThere fs q → path_at S.checked fs p ≡ path_at S.checked fs q → p ≡ q
   trail-once p q t u e = path-once S fs a p q t u e
 
-  value-once : (v w : RowValue) → NamesArray S.checked fs v → NamesArray S.checked fs w → value_at S.checked fs v ≡ value_at S.checked fs w → v ≡ w
+  value-once : (v w : RowValue) → NamesArray S.checked fs v → NamesArray S.checked fs w
+      → value_at S.checked fs v ≡ value_at S.checked fs w → v ≡ w
   value-once (Int m) (Int n) x y e = cc
   value-once (Int m) (Bool c) x y e = cc
   value-once (Int m) (Name j) x y e = cc
@@ -128,7 +133,8 @@ module _ (S : Source) (fs : List RowFact) (a : AreFound S fs) where
   fact-once (Shape s lo hi) (Has q m w) i j e = cc
   fact-once (Shape s lo hi) (Shape t low high) i j e =
       let r = same-shape _ _ e in
-      ap (λ x. Shape x lo hi) (name-once S fs a s t (a.arrays (Shape s lo hi) i) (a.arrays (Shape t low high) j) (ap (λ x. x.name) r))
+      ap (λ x. Shape x lo hi)
+      (name-once S fs a s t (a.arrays (Shape s lo hi) i) (a.arrays (Shape t low high) j) (ap (λ x. x.name) r))
       ∙ ap (λ x. Shape t x hi) (ap (λ x. x.low) r) ∙ ap (λ x. Shape t low x) (ap (λ x. x.high) r)
   fact-once (Shape s lo hi) (Put q m t l w) i j e = cc
   fact-once (Shape s lo hi) (Ask q m t l) i j e = cc
@@ -139,9 +145,13 @@ module _ (S : Source) (fs : List RowFact) (a : AreFound S fs) where
       let r = same-put _ _ e in
       let x = a.arrays (Put p n s k v) i in
       let y = a.arrays (Put q m t l w) j in
-      ap (λ z. Put z n s k v) (trail-once p q (there-of S fs a (Put p n s k v) i) (there-of S fs a (Put q m t l w) j) (ap (λ z. z.store.path) r))
-      ∙ ap (λ z. Put q z s k v) (row-once n m (a.things (Put p n s k v) i) (a.things (Put q m t l w) j) (ap (λ z. z.store.place) r))
-      ∙ ap (λ z. Put q m z k v) (name-once S fs a s t x.0 y.0 (ap (λ z. z.name) r)) ∙ ap (λ z. Put q m t z v) (ap (λ z. z.index) r)
+      ap (λ z. Put z n s k v)
+      (trail-once p q (there-of S fs a (Put p n s k v) i) (there-of S fs a (Put q m t l w) j)
+      (ap (λ z. z.store.path) r))
+      ∙ ap (λ z. Put q z s k v)
+      (row-once n m (a.things (Put p n s k v) i) (a.things (Put q m t l w) j) (ap (λ z. z.store.place) r))
+      ∙ ap (λ z. Put q m z k v) (name-once S fs a s t x.0 y.0 (ap (λ z. z.name) r))
+      ∙ ap (λ z. Put q m t z v) (ap (λ z. z.index) r)
       ∙ ap (λ z. Put q m t l z) (value-once v w x.1 y.1 (ap (λ z. z.value) r))
   fact-once (Put p n s k v) (Ask q m t l) i j e = cc
   fact-once (Ask p n s k) (On q m) i j e = cc
@@ -150,9 +160,12 @@ module _ (S : Source) (fs : List RowFact) (a : AreFound S fs) where
   fact-once (Ask p n s k) (Put q m t l w) i j e = cc
   fact-once (Ask p n s k) (Ask q m t l) i j e =
       let r = same-ask _ _ e in
-      ap (λ z. Ask z n s k) (trail-once p q (there-of S fs a (Ask p n s k) i) (there-of S fs a (Ask q m t l) j) (ap (λ z. z.fetch.path) r))
-      ∙ ap (λ z. Ask q z s k) (row-once n m (a.things (Ask p n s k) i) (a.things (Ask q m t l) j) (ap (λ z. z.fetch.place) r))
-      ∙ ap (λ z. Ask q m z k) (name-once S fs a s t (a.arrays (Ask p n s k) i) (a.arrays (Ask q m t l) j) (ap (λ z. z.name) r))
+      ap (λ z. Ask z n s k)
+      (trail-once p q (there-of S fs a (Ask p n s k) i) (there-of S fs a (Ask q m t l) j) (ap (λ z. z.fetch.path) r))
+      ∙ ap (λ z. Ask q z s k)
+      (row-once n m (a.things (Ask p n s k) i) (a.things (Ask q m t l) j) (ap (λ z. z.fetch.place) r))
+      ∙ ap (λ z. Ask q m z k)
+      (name-once S fs a s t (a.arrays (Ask p n s k) i) (a.arrays (Ask q m t l) j) (ap (λ z. z.name) r))
       ∙ ap (λ z. Ask q m t z) (ap (λ z. z.index) r)
 
   -- the list has none twice
@@ -164,7 +177,9 @@ module _ (S : Source) (fs : List RowFact) (a : AreFound S fs) where
       let c = facts-count S.checked fs fs in
       let l : i < length fs = omega (arith, c, below, within) in
       let m : j < length fs = omega (arith, c, within) in
-      let one = sym (in-at S.checked fs fs i d l) ∙ is_same-one (get_or own i d) (get_or own j d) h ∙ in-at S.checked fs fs j d m in
+      let one =
+      sym (in-at S.checked fs fs i d l) ∙ is_same-one (get_or own i d) (get_or own j d) h
+      ∙ in-at S.checked fs fs j d m in
       let same = fact-once (fact_at fs i) (fact_at fs j) (among-at fs i l) (among-at fs j m) one in
       let number = a.apart i j l m same in
       absurd (omega (arith, number, below))))
@@ -178,26 +193,30 @@ module _ (S : Source) (fs : List RowFact) (a : AreFound S fs) where
 pub part : (S : Source) (n : ℕ) (fs : List RowFact) → IsRound S n fs → IsPart S n fs
 part S n fs h = record { only = h.only; found = h.found }
 
-facts-only : (S : Source) (n : ℕ) (fs : List RowFact) → IsPart S n fs → (f : Fact) → Among f (facts_in S.checked fs fs) → Rounds S n f
+facts-only : (S : Source) (n : ℕ) (fs : List RowFact) → IsPart S n fs → (f : Fact) → Among f (facts_in S.checked fs fs)
+    → Rounds S n f
 facts-only S n fs h f i =
     let r = in-only S.checked fs f fs i in
     let F : Fact → Type 0 = λ x. Rounds S n x in
     subst F (sym r.2) (h.only r.0 r.1)
 
-facts-all : (S : Source) (n : ℕ) (fs : List RowFact) → IsRound S n fs → (f : Fact) → Rounds S n f → Among f (facts_in S.checked fs fs)
+facts-all : (S : Source) (n : ℕ) (fs : List RowFact) → IsRound S n fs → (f : Fact) → Rounds S n f
+    → Among f (facts_in S.checked fs fs)
 facts-all S n fs h f i =
     let r = h.all f i in
     let F : Fact → Type 0 = λ x. Among x (facts_in S.checked fs fs) in
     subst F (sym r.2) (in-all S.checked fs r.0 fs r.1)
 
 -- where the facts are those of a round, their list is that of the round
-pub AreFacts-from_rows : (S : Source) (n : ℕ) (fs : List RowFact) (all : List Fact) → IsRound S n fs → AreShown S.checked fs all → AreFacts S n all
+pub AreFacts-from_rows : (S : Source) (n : ℕ) (fs : List RowFact) (all : List Fact) → IsRound S n fs
+    → AreShown S.checked fs all → AreFacts S n all
 AreFacts-from_rows S n fs all s h =
     let own = facts_in S.checked fs fs in
     record {
       all = λ f k. moved own all h.same f (facts-all S n fs s f k);
       only = λ f k. facts-only S n fs (part S n fs s) f (moved all own (IsPermutation-sym own all h.same) f k);
-      rise = FactsRise-up all h.up (IsDistinct-IsPermutation is_same is_same-flips own all h.same (facts-distinct S fs s.found));
+      rise = FactsRise-up all h.up
+          (IsDistinct-IsPermutation is_same is_same-flips own all h.same (facts-distinct S fs s.found));
     }
 
 -- it is as long
@@ -205,7 +224,8 @@ pub shown-count : (P : Checked) (fs : List RowFact) (all : List Fact) → AreSho
 shown-count P fs all h = length_permutation (facts_in P fs fs) all h.same ∙ facts-count P fs fs
 
 -- where there are more facts of a round, the round has more
-pub more-facts : (S : Source) (r n most : ℕ) (ds : List RowFact) → IsPart S r ds → r ≤ n → most < length ds → HasMoreFacts S n most
+pub more-facts : (S : Source) (r n most : ℕ) (ds : List RowFact) → IsPart S r ds → r ≤ n → most < length ds
+    → HasMoreFacts S n most
 more-facts S r n most ds s l m =
     let c = facts-count S.checked ds ds in
     record {
@@ -214,7 +234,11 @@ more-facts S r n most ds s l m =
       facts = facts_in S.checked ds ds;
       only = facts-only S r ds s;
       once =
-          AllPairs-from_IsDistinct (λ f g. (is_same-one f g, λ e. (let F : Fact → Type 0 = λ x. is_same f x ≡ true in subst F e (is_same-itself f))))
+          AllPairs-from_IsDistinct
+          (λ f g. (
+            is_same-one f g,
+            λ e. (let F : Fact → Type 0 = λ x. is_same f x ≡ true in subst F e (is_same-itself f)),
+          ))
           (facts_in S.checked ds ds) (facts-distinct S ds s.found);
       more = omega (arith, c, m);
     }

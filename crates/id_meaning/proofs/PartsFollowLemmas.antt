@@ -18,7 +18,8 @@ use Rattle.id_facts.specs.declared.queues.Wait.{Wait}
 use Rattle.id_source.specs.Sources.{Source}
 use Rattle.id_source.specs.Links.{AreArgs, AreReads, Leads, asker_of, beyond, linked_of, targets}
 use Rattle.id_facts.specs.Cells.{AreChained, find, items, queue_of}
-use Rattle.id_meaning.specs.Effects.{all_woken, begin_at, call_at, effects, exit_at, gain, gains, index_at, loop_by, pass_of, start_at, woken}
+use Rattle.id_meaning.specs.Effects.{all_woken, begin_at, call_at, effects, exit_at, gain, gains, index_at, loop_by}
+use Rattle.id_meaning.specs.Effects.{pass_of, start_at, woken}
 use Rattle.id_facts.specs.Queues.{queue}
 use Rattle.id_meaning.specs.Given.{given}
 use Rattle.id_facts.specs.Firsts.{haves, ons}
@@ -49,7 +50,8 @@ when-same a x fs h = let F : Truth → Type 0 = λ t. Among x (if t then fs else
 module _ (S : Source) (c : Cells) (chained : AreChained c) (found : AreFound S (items c)) where
   -- what is On by a fact is among the facts, and is found by its number
   pub known-on : {i n : ℕ} {p : Trail} → IsOnBy (items c) i p n → Among (On p n) (items c)
-  known-on {i = i} o = let F : RowFact → Type 0 = λ f. Among f (items c) in subst F o.fact (among-at (items c) i o.within)
+  known-on {i = i} o =
+      let F : RowFact → Type 0 = λ f. Among f (items c) in subst F o.fact (among-at (items c) i o.within)
 
   pub found-by : {i n : ℕ} {p : Trail} → IsOnBy (items c) i p n → find c p n ≡ Some i
   found-by {i = i} {n = n} {p = p} o =
@@ -71,27 +73,31 @@ module _ (S : Source) (l : Links) (W : Queues) (c : Cells) where
   Begins p n = begin_at S.checked l c (On p n) p n
 
   -- what comes at a row that is On, by its call, by its loop, and by the bounds of that
-  pub from-given : (p : Trail) (n : ℕ) (x : RowFact) → Among x (given S.checked c (On p n) p n) → Among x (effects S.checked l W c (On p n))
+  pub from-given : (p : Trail) (n : ℕ) (x : RowFact) → Among x (given S.checked c (On p n) p n)
+      → Among x (effects S.checked l W c (On p n))
   from-given p n x h =
       let g = given S.checked c (On p n) p n in
       let rest = Calls p n ++ (Starts p n ++ Begins p n) in
       Among-right x (ons p (targets l.turns.rows.items n)) (g ++ rest) (Among-left x g rest h)
 
-  pub from-call : (p : Trail) (n : ℕ) (x : RowFact) → Among x (call_at S.checked l c (On p n) p n) → Among x (effects S.checked l W c (On p n))
+  pub from-call : (p : Trail) (n : ℕ) (x : RowFact) → Among x (call_at S.checked l c (On p n) p n)
+      → Among x (effects S.checked l W c (On p n))
   from-call p n x h =
       let g = given S.checked c (On p n) p n in
       let rest = Starts p n ++ Begins p n in
       Among-right x (ons p (targets l.turns.rows.items n)) (g ++ (Calls p n ++ rest))
       (Among-right x g (Calls p n ++ rest) (Among-left x (Calls p n) rest h))
 
-  pub from-start : (p : Trail) (n : ℕ) (x : RowFact) → Among x (start_at S.checked l c (On p n) p n) → Among x (effects S.checked l W c (On p n))
+  pub from-start : (p : Trail) (n : ℕ) (x : RowFact) → Among x (start_at S.checked l c (On p n) p n)
+      → Among x (effects S.checked l W c (On p n))
   from-start p n x h =
       let g = given S.checked c (On p n) p n in
       let rest = Starts p n ++ Begins p n in
       Among-right x (ons p (targets l.turns.rows.items n)) (g ++ (Calls p n ++ rest))
       (Among-right x g (Calls p n ++ rest) (Among-right x (Calls p n) rest (Among-left x (Starts p n) (Begins p n) h)))
 
-  pub from-begin : (p : Trail) (n : ℕ) (x : RowFact) → Among x (begin_at S.checked l c (On p n) p n) → Among x (effects S.checked l W c (On p n))
+  pub from-begin : (p : Trail) (n : ℕ) (x : RowFact) → Among x (begin_at S.checked l c (On p n) p n)
+      → Among x (effects S.checked l W c (On p n))
   from-begin p n x h =
       let g = given S.checked c (On p n) p n in
       let rest = Starts p n ++ Begins p n in
@@ -99,13 +105,14 @@ module _ (S : Source) (l : Links) (W : Queues) (c : Cells) where
       (Among-right x g (Calls p n ++ rest) (Among-right x (Calls p n) rest (Among-right x (Starts p n) (Begins p n) h)))
 
   -- what comes at one of these rows
-  pub gains-all : (p : Trail) (n : ℕ) (v : RowValue) (x : RowFact) (m : ℕ) (ms : List ℕ) → Among m ms → Among x (gain S.checked l c p n v m)
-      → Among x (gains S.checked l c p n v ms)
+  pub gains-all : (p : Trail) (n : ℕ) (v : RowValue) (x : RowFact) (m : ℕ) (ms : List ℕ) → Among m ms
+      → Among x (gain S.checked l c p n v m) → Among x (gains S.checked l c p n v ms)
   gains-all p n v x m [] h k = absurd h
   gains-all p n v x m (a ∷ ms) (inl e) k =
       let F : ℕ → Type 0 = λ b. Among x (gain S.checked l c p n v b) in
       Among-left x (gain S.checked l c p n v a) (gains S.checked l c p n v ms) (subst F e k)
-  gains-all p n v x m (a ∷ ms) (inr h) k = Among-right x (gain S.checked l c p n v a) (gains S.checked l c p n v ms) (gains-all p n v x m ms h k)
+  gains-all p n v x m (a ∷ ms) (inr h) k =
+      Among-right x (gain S.checked l c p n v a) (gains S.checked l c p n v ms) (gains-all p n v x m ms h k)
 
   -- what comes where a row Has a value, by parts
   abbrev Wakes : Trail → ℕ → RowValue → List RowFact
@@ -115,15 +122,15 @@ module _ (S : Source) (l : Links) (W : Queues) (c : Cells) where
   Counts p n v = exit_at S.checked c p n v ++ index_at S.checked l c p n v
 
   -- what comes at a row that reads this one
-  pub from-gain : (p : Trail) (n : ℕ) (v : RowValue) (x : RowFact) (m : ℕ) → Leads l.reads n m → Among x (gain S.checked l c p n v m)
-      → Among x (effects S.checked l W c (Has p n v))
+  pub from-gain : (p : Trail) (n : ℕ) (v : RowValue) (x : RowFact) (m : ℕ) → Leads l.reads n m
+      → Among x (gain S.checked l c p n v m) → Among x (effects S.checked l W c (Has p n v))
   from-gain p n v x m h k =
       let ms = targets l.reads.rows.items n in
       Among-left x (gains S.checked l c p n v ms) (Wakes p n v ++ Counts p n v) (gains-all p n v x m ms h k)
 
   -- and of that what comes by an argument, by the switches or a `next` of a loop, and by the bounds of one
-  pub from-pass : (p : Trail) (n : ℕ) (v : RowValue) (x : RowFact) (m : ℕ) (z : Node) → Stands S.checked m z → Leads l.reads n m
-      → Among x (pass_of S.checked l c p n v z) → Among x (effects S.checked l W c (Has p n v))
+  pub from-pass : (p : Trail) (n : ℕ) (v : RowValue) (x : RowFact) (m : ℕ) (z : Node) → Stands S.checked m z
+      → Leads l.reads n m → Among x (pass_of S.checked l c p n v z) → Among x (effects S.checked l W c (Has p n v))
   from-pass p n v x m z st h k =
       let y = (at (rows S.checked) m).node in
       let F : Node → Type 0 = λ a. Among x (pass_of S.checked l c p n v a) in
@@ -132,8 +139,8 @@ module _ (S : Source) (l : Links) (W : Queues) (c : Cells) where
       let rest = loop_by S.checked l c p n v m y ++ begin_at S.checked l c (Has p n v) p m in
       from-gain p n v x m h (Among-right x a (b ++ rest) (Among-left x b rest (subst F (sym st.node) k)))
 
-  pub from-loop : (p : Trail) (n : ℕ) (v : RowValue) (x : RowFact) (m : ℕ) (z : Node) → Stands S.checked m z → Leads l.reads n m
-      → Among x (loop_by S.checked l c p n v m z) → Among x (effects S.checked l W c (Has p n v))
+  pub from-loop : (p : Trail) (n : ℕ) (v : RowValue) (x : RowFact) (m : ℕ) (z : Node) → Stands S.checked m z
+      → Leads l.reads n m → Among x (loop_by S.checked l c p n v m z) → Among x (effects S.checked l W c (Has p n v))
   from-loop p n v x m z st h k =
       let y = (at (rows S.checked) m).node in
       let F : Node → Type 0 = λ a. Among x (loop_by S.checked l c p n v m a) in
@@ -141,7 +148,8 @@ module _ (S : Source) (l : Links) (W : Queues) (c : Cells) where
       let b = pass_of S.checked l c p n v y in
       let d = loop_by S.checked l c p n v m y in
       let e = begin_at S.checked l c (Has p n v) p m in
-      from-gain p n v x m h (Among-right x a (b ++ (d ++ e)) (Among-right x b (d ++ e) (Among-left x d e (subst F (sym st.node) k))))
+      from-gain p n v x m h
+      (Among-right x a (b ++ (d ++ e)) (Among-right x b (d ++ e) (Among-left x d e (subst F (sym st.node) k))))
 
   pub from-bound : (p : Trail) (n : ℕ) (v : RowValue) (x : RowFact) (m : ℕ) → Leads l.reads n m
       → Among x (begin_at S.checked l c (Has p n v) p m) → Among x (effects S.checked l W c (Has p n v))
@@ -153,33 +161,39 @@ module _ (S : Source) (l : Links) (W : Queues) (c : Cells) where
       let e = begin_at S.checked l c (Has p n v) p m in
       from-gain p n v x m h (Among-right x a (b ++ (d ++ e)) (Among-right x b (d ++ e) (Among-right x d e k)))
 
-  woken-all : (p : Trail) (n : ℕ) (v : RowValue) (x : RowFact) (w : Wait) (ws : List Wait) → Among w ws → Among x (woken S.checked l c p n v w)
-      → Among x (all_woken S.checked l c p n v ws)
+  woken-all : (p : Trail) (n : ℕ) (v : RowValue) (x : RowFact) (w : Wait) (ws : List Wait) → Among w ws
+      → Among x (woken S.checked l c p n v w) → Among x (all_woken S.checked l c p n v ws)
   woken-all p n v x w [] h k = absurd h
   woken-all p n v x w (a ∷ ws) (inl e) k =
       let F : Wait → Type 0 = λ b. Among x (woken S.checked l c p n v b) in
       Among-left x (woken S.checked l c p n v a) (all_woken S.checked l c p n v ws) (subst F e k)
-  woken-all p n v x w (a ∷ ws) (inr h) k = Among-right x (woken S.checked l c p n v a) (all_woken S.checked l c p n v ws) (woken-all p n v x w ws h k)
+  woken-all p n v x w (a ∷ ws) (inr h) k =
+      Among-right x (woken S.checked l c p n v a) (all_woken S.checked l c p n v ws) (woken-all p n v x w ws h k)
 
   -- what comes by one that waits for the value
-  pub from-woken : (p : Trail) (n : ℕ) (v : RowValue) (x : RowFact) (w : Wait) → Among w (queue W.queues.items (queue_of p n))
-      → Among x (woken S.checked l c p n v w) → Among x (effects S.checked l W c (Has p n v))
+  pub from-woken : (p : Trail) (n : ℕ) (v : RowValue) (x : RowFact) (w : Wait)
+      → Among w (queue W.queues.items (queue_of p n)) → Among x (woken S.checked l c p n v w)
+      → Among x (effects S.checked l W c (Has p n v))
   from-woken p n v x w h k =
       let ws = queue W.queues.items (queue_of p n) in
       Among-right x (gains S.checked l c p n v (targets l.reads.rows.items n)) (Wakes p n v ++ Counts p n v)
       (Among-left x (Wakes p n v) (Counts p n v) (woken-all p n v x w ws h k))
 
   -- what comes where a call or a loop ends
-  pub from-exit : (p : Trail) (n : ℕ) (v : RowValue) (x : RowFact) → Among x (exit_at S.checked c p n v) → Among x (effects S.checked l W c (Has p n v))
+  pub from-exit : (p : Trail) (n : ℕ) (v : RowValue) (x : RowFact) → Among x (exit_at S.checked c p n v)
+      → Among x (effects S.checked l W c (Has p n v))
   from-exit p n v x h =
       Among-right x (gains S.checked l c p n v (targets l.reads.rows.items n)) (Wakes p n v ++ Counts p n v)
-      (Among-right x (Wakes p n v) (Counts p n v) (Among-left x (exit_at S.checked c p n v) (index_at S.checked l c p n v) h))
+      (Among-right x (Wakes p n v) (Counts p n v)
+      (Among-left x (exit_at S.checked c p n v) (index_at S.checked l c p n v) h))
 
   -- and where an index has a value
-  pub from-index : (p : Trail) (n : ℕ) (v : RowValue) (x : RowFact) → Among x (index_at S.checked l c p n v) → Among x (effects S.checked l W c (Has p n v))
+  pub from-index : (p : Trail) (n : ℕ) (v : RowValue) (x : RowFact) → Among x (index_at S.checked l c p n v)
+      → Among x (effects S.checked l W c (Has p n v))
   from-index p n v x h =
       Among-right x (gains S.checked l c p n v (targets l.reads.rows.items n)) (Wakes p n v ++ Counts p n v)
-      (Among-right x (Wakes p n v) (Counts p n v) (Among-right x (exit_at S.checked c p n v) (index_at S.checked l c p n v) h))
+      (Among-right x (Wakes p n v) (Counts p n v)
+      (Among-right x (exit_at S.checked c p n v) (index_at S.checked l c p n v) h))
 
   -- ---- who reads, and who asks
 

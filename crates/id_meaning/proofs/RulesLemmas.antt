@@ -16,7 +16,8 @@ use Rattle.id_table.specs.declared.row.Node.{Node}
 use Rattle.id_table.specs.declared.row.Node.TheVariants as node
 use Rattle.id_table.specs.Rows.{at}
 use Rattle.id_table.specs.Tables.{HasPart, is_call}
-use Rattle.id_table.specs.Turns.{Turns, operand, left, right, test, argument, body, low, high, fetched, fetch_index, address_target, address_index}
+use Rattle.id_table.specs.Turns.{Turns, operand, left, right, test, argument, body, low, high, fetched, fetch_index}
+use Rattle.id_table.specs.Turns.{address_target, address_index}
 use Rattle.id_table.specs.Turns.{params_at, statement, stored, stored_value, index_low, index_high}
 use Rattle.id_check.specs.Programs.{Stands, binder, place, rows}
 use Rattle.id_check.proofs.ProgramsLemmas.{binder_below, table_of}
@@ -33,14 +34,16 @@ use Rattle.id_facts.specs.declared.facts.RowValue.TheVariants.{Int, Bool, Name}
 use Rattle.id_facts.specs.declared.facts.Trail.{Trail}
 use Rattle.id_facts.specs.declared.facts.Trail.TheVariants.{Outermost, Below}
 use Rattle.id_source.specs.Sources.{Source, IsInput, main_body, value_of}
-use Rattle.id_source.specs.Facts.{ForStands, GoesOn, LoopStands, NextStands, StoreStands, BodyBinds, BodyStores, Rule, ask, below, between, put, shape, site, without}
+use Rattle.id_source.specs.Facts.{ForStands, GoesOn, LoopStands, NextStands, StoreStands, BodyBinds, BodyStores, Rule}
+use Rattle.id_source.specs.Facts.{ask, below, between, put, shape, site, without}
 use Rattle.id_source.specs.Facts as rule
 use Rattle.id_source.specs.Rounds.{Every, Rounds}
 use Rattle.id_source.specs.Links.{BodyTurns, PartTurns, arm_of, far_from, of_binding, of_next, of_store}
 use Rattle.id_facts.specs.RowFacts.{fact_at, path_of, row_of}
 use Rattle.id_facts.specs.Cells.{out_of}
 use Rattle.id_facts.specs.Firsts.{row_value}
-use Rattle.id_facts.specs.Listed.{BeginsOn, IsArrayOn, IsOfThing, IsRound, NamesArray, NamesArrays, fact_of, name_at, path_at, value_at}
+use Rattle.id_facts.specs.Listed.{BeginsOn, IsArrayOn, IsOfThing, IsRound, NamesArray, NamesArrays, fact_of, name_at}
+use Rattle.id_facts.specs.Listed.{path_at, value_at}
 use Rattle.id_source.specs.Things.{IsThing}
 use Rattle.id_source.proofs.CheckedLemmas.{far-between, next-loop, thing-param, use_binder}
 use Rattle.id_source.proofs.AroundLemmas.{around-within}
@@ -54,7 +57,8 @@ use Rattle.id_facts.proofs.FactsLemmas.{IsOnBy}
 -- by these facts of rows the loop at the row n, with its switches at w, which is On at the path p by the fact of number
 -- i, goes on or not in iteration k (GoesOn of a source)
 pub data RowGoesOn (S : Source) (n w : ℕ) (p : Trail) (i : ℕ) : ℕ → Truth → List RowFact → Type 0 where
-  by_predicate : {h t l : ℕ} {b : Truth} (k : ℕ) → LoopStands S.checked n h w t l → RowGoesOn S n w p i k b (Has (Below i k) t (Bool b) ∷ [])
+  by_predicate : {h t l : ℕ} {b : Truth} (k : ℕ) → LoopStands S.checked n h w t l
+      → RowGoesOn S n w p i k b (Has (Below i k) t (Bool b) ∷ [])
   by_bounds : {x a b l : ℕ} {lo hi : ℤ} {c : Truth} → ForStands S.checked n w x a b l → int_le lo hi ≡ c
       → RowGoesOn S n w p i 0 c (On p n ∷ Has p a (Int lo) ∷ Has p b (Int hi) ∷ [])
   by_index : {x a b l : ℕ} {j hi : ℤ} {c : Truth} (k : ℕ) → ForStands S.checked n w x a b l → int_lt j hi ≡ c
@@ -64,56 +68,75 @@ pub data RowGoesOn (S : Source) (n w : ℕ) (p : Trail) (i : ℕ) : ℕ → Trut
 pub data RowRule (S : Source) (fs : List RowFact) : List RowFact → RowFact → Type 0 where
   main : RowRule S fs [] (On Outermost (main_body S.checked))
   input : {n : ℕ} {c : Constant} → IsInput S n c → RowRule S fs [] (Has Outermost n (row_value c))
-  turned : {p : Trail} {n a : ℕ} → n < length (rows S.checked) → PartTurns (rows S.checked) n a → RowRule S fs (On p n ∷ []) (On p a)
-  literal : {p : Trail} {n : ℕ} {c : Constant} → Stands S.checked n (node.Literal c) → RowRule S fs (On p n ∷ []) (Has p n (row_value c))
-  unary : {p : Trail} {n a : ℕ} {o : UnaryOp} {x : Constant} (c : Constant) → Stands S.checked n (node.Unary o a) → result_of_unary o c ≡ Gives x
-      → RowRule S fs (On p n ∷ Has p a (row_value c) ∷ []) (Has p n (row_value x))
-  binary : {p : Trail} {n a b : ℕ} {o : BinaryOp} {x : Constant} (c d : Constant) → Stands S.checked n (node.Binary o a b) → result_of_binary o c d ≡ Gives x
+  turned : {p : Trail} {n a : ℕ} → n < length (rows S.checked) → PartTurns (rows S.checked) n a
+      → RowRule S fs (On p n ∷ []) (On p a)
+  literal : {p : Trail} {n : ℕ} {c : Constant} → Stands S.checked n (node.Literal c)
+      → RowRule S fs (On p n ∷ []) (Has p n (row_value c))
+  unary : {p : Trail} {n a : ℕ} {o : UnaryOp} {x : Constant} (c : Constant) → Stands S.checked n (node.Unary o a)
+      → result_of_unary o c ≡ Gives x → RowRule S fs (On p n ∷ Has p a (row_value c) ∷ []) (Has p n (row_value x))
+  binary : {p : Trail} {n a b : ℕ} {o : BinaryOp} {x : Constant} (c d : Constant)
+      → Stands S.checked n (node.Binary o a b) → result_of_binary o c d ≡ Gives x
       → RowRule S fs (On p n ∷ Has p a (row_value c) ∷ Has p b (row_value d) ∷ []) (Has p n (row_value x))
   name : {p : Trail} {n x b : ℕ} {v : RowValue} → Stands S.checked n (node.Name x) → binder S.checked n ≡ Some b
       → RowRule S fs (On p n ∷ Has (out_of fs (far_from S.checked n (Some b)) p) b v ∷ []) (Has p n v)
   arm : {p : Trail} {n s x y t : ℕ} (b : Truth) → Stands S.checked n (node.If s x y) → Stands S.checked s (node.Split t)
       → RowRule S fs (On p n ∷ Has p t (Bool b) ∷ []) (On p (arm_of b x y))
-  conditional : {p : Trail} {n s x y t : ℕ} {v : RowValue} (b : Truth) → Stands S.checked n (node.If s x y) → Stands S.checked s (node.Split t)
+  conditional : {p : Trail} {n s x y t : ℕ} {v : RowValue} (b : Truth) → Stands S.checked n (node.If s x y)
+      → Stands S.checked s (node.Split t)
       → RowRule S fs (On p n ∷ Has p t (Bool b) ∷ Has p (arm_of b x y) v ∷ []) (Has p n v)
-  block : {p : Trail} {n b : ℕ} {v : RowValue} → Stands S.checked n (node.Block b) → RowRule S fs (On p n ∷ Has p b v ∷ []) (Has p n v)
-  binding : {p : Trail} {n x a : ℕ} {v : RowValue} → Stands S.checked n (node.Binding x a) → RowRule S fs (Has p a v ∷ []) (Has p n v)
-  made_shape : {p : Trail} {n a b i : ℕ} {nested : Truth} {lo hi : ℤ} → Stands S.checked n (node.Array nested a b) → IsOnBy fs i p n → are_good lo hi ≡ true
+  block : {p : Trail} {n b : ℕ} {v : RowValue} → Stands S.checked n (node.Block b)
+      → RowRule S fs (On p n ∷ Has p b v ∷ []) (Has p n v)
+  binding : {p : Trail} {n x a : ℕ} {v : RowValue} → Stands S.checked n (node.Binding x a)
+      → RowRule S fs (Has p a v ∷ []) (Has p n v)
+  made_shape : {p : Trail} {n a b i : ℕ} {nested : Truth} {lo hi : ℤ} → Stands S.checked n (node.Array nested a b)
+      → IsOnBy fs i p n → are_good lo hi ≡ true
       → RowRule S fs (On p n ∷ Has p a (Int lo) ∷ Has p b (Int hi) ∷ []) (Shape i lo hi)
-  made_name : {p : Trail} {n a b i : ℕ} {nested : Truth} {lo hi : ℤ} → Stands S.checked n (node.Array nested a b) → IsOnBy fs i p n → are_good lo hi ≡ true
+  made_name : {p : Trail} {n a b i : ℕ} {nested : Truth} {lo hi : ℤ} → Stands S.checked n (node.Array nested a b)
+      → IsOnBy fs i p n → are_good lo hi ≡ true
       → RowRule S fs (On p n ∷ Has p a (Int lo) ∷ Has p b (Int hi) ∷ []) (Has p n (Name i))
   asked : {p : Trail} {n t i s : ℕ} {j lo hi : ℤ} → Stands S.checked n (node.Fetch t i) → is_inside lo hi j ≡ true
       → RowRule S fs (On p n ∷ Has p t (Name s) ∷ Has p i (Int j) ∷ Shape s lo hi ∷ []) (Ask p n s j)
-  answered : {p q : Trail} {n m s : ℕ} {j : ℤ} {v : RowValue} → RowRule S fs (Ask p n s j ∷ Put q m s j v ∷ []) (Has p n v)
-  put_there : {p : Trail} {m t i x s : ℕ} {j lo hi : ℤ} {v : RowValue} → StoreStands S.checked m t i x → is_inside lo hi j ≡ true
+  answered : {p q : Trail} {n m s : ℕ} {j : ℤ} {v : RowValue}
+      → RowRule S fs (Ask p n s j ∷ Put q m s j v ∷ []) (Has p n v)
+  put_there : {p : Trail} {m t i x s : ℕ} {j lo hi : ℤ} {v : RowValue} → StoreStands S.checked m t i x
+      → is_inside lo hi j ≡ true
       → RowRule S fs (On p m ∷ Has p t (Name s) ∷ Has p i (Int j) ∷ Has p x v ∷ Shape s lo hi ∷ []) (Put p m s j v)
-  asks_argument : {p : Trail} {n e c m k v : ℕ} → Stands S.checked n (node.Call e c) → Stands S.checked m (node.Arg e k v)
-      → RowRule S fs (On p n ∷ []) (On p v)
-  begins : {p : Trail} {n e c d x h b i : ℕ} {k : Kind} → Stands S.checked n (node.Call e c) → binder S.checked e ≡ Some d
-      → Stands S.checked d (node.Def x h k b) → IsOnBy fs i p n → RowRule S fs (On p n ∷ []) (On (Below i 0) b)
-  passes : {p : Trail} {n e c d x h b m j a q i : ℕ} {k : Kind} {v : RowValue} → Stands S.checked n (node.Call e c) → Stands S.checked m (node.Arg e j a)
-      → binder S.checked e ≡ Some d → Stands S.checked d (node.Def x h k b) → slice_get (params_at (rows S.checked) h) j ≡ Some q → IsOnBy fs i p n
+  asks_argument : {p : Trail} {n e c m k v : ℕ} → Stands S.checked n (node.Call e c)
+      → Stands S.checked m (node.Arg e k v) → RowRule S fs (On p n ∷ []) (On p v)
+  begins : {p : Trail} {n e c d x h b i : ℕ} {k : Kind} → Stands S.checked n (node.Call e c)
+      → binder S.checked e ≡ Some d → Stands S.checked d (node.Def x h k b) → IsOnBy fs i p n
+      → RowRule S fs (On p n ∷ []) (On (Below i 0) b)
+  passes : {p : Trail} {n e c d x h b m j a q i : ℕ} {k : Kind} {v : RowValue} → Stands S.checked n (node.Call e c)
+      → Stands S.checked m (node.Arg e j a) → binder S.checked e ≡ Some d → Stands S.checked d (node.Def x h k b)
+      → slice_get (params_at (rows S.checked) h) j ≡ Some q → IsOnBy fs i p n
       → RowRule S fs (On p n ∷ Has p a v ∷ []) (Has (Below i 0) q v)
-  ends : {p : Trail} {n e c d x h b i : ℕ} {k : Kind} {v : RowValue} → Stands S.checked n (node.Call e c) → binder S.checked e ≡ Some d
-      → Stands S.checked d (node.Def x h k b) → IsOnBy fs i p n → RowRule S fs (On p n ∷ Has (Below i 0) b v ∷ []) (Has p n v)
-  starts : {p : Trail} {n h w t l i : ℕ} → LoopStands S.checked n h w t l → IsOnBy fs i p n → RowRule S fs (On p n ∷ []) (On (Below i 0) t)
-  enters : {p : Trail} {n h w l m o v c i : ℕ} {u : RowValue} → Stands S.checked n (node.Loop h w l) → NextStands S.checked m h o v
-      → binder S.checked o ≡ Some c
-      → IsOnBy fs i p n → RowRule S fs (On p n ∷ Has (out_of fs (far_from S.checked n (Some c)) p) c u ∷ []) (Has (Below i 0) m u)
-  counts_first : {p : Trail} {n w x a b l i : ℕ} {lo hi : ℤ} → ForStands S.checked n w x a b l → IsOnBy fs i p n → int_le lo hi ≡ true
+  ends : {p : Trail} {n e c d x h b i : ℕ} {k : Kind} {v : RowValue} → Stands S.checked n (node.Call e c)
+      → binder S.checked e ≡ Some d → Stands S.checked d (node.Def x h k b) → IsOnBy fs i p n
+      → RowRule S fs (On p n ∷ Has (Below i 0) b v ∷ []) (Has p n v)
+  starts : {p : Trail} {n h w t l i : ℕ} → LoopStands S.checked n h w t l → IsOnBy fs i p n
+      → RowRule S fs (On p n ∷ []) (On (Below i 0) t)
+  enters : {p : Trail} {n h w l m o v c i : ℕ} {u : RowValue} → Stands S.checked n (node.Loop h w l)
+      → NextStands S.checked m h o v → binder S.checked o ≡ Some c
+      → IsOnBy fs i p n
+      → RowRule S fs (On p n ∷ Has (out_of fs (far_from S.checked n (Some c)) p) c u ∷ []) (Has (Below i 0) m u)
+  counts_first : {p : Trail} {n w x a b l i : ℕ} {lo hi : ℤ} → ForStands S.checked n w x a b l → IsOnBy fs i p n
+      → int_le lo hi ≡ true
       → RowRule S fs (On p n ∷ Has p a (Int lo) ∷ Has p b (Int hi) ∷ []) (Has (Below i 0) x (Int lo))
-  counts_on : {p : Trail} {n w x a b l i : ℕ} {j hi : ℤ} (k : ℕ) → ForStands S.checked n w x a b l → IsOnBy fs i p n → int_lt j hi ≡ true
+  counts_on : {p : Trail} {n w x a b l i : ℕ} {j hi : ℤ} (k : ℕ) → ForStands S.checked n w x a b l → IsOnBy fs i p n
+      → int_lt j hi ≡ true
       → RowRule S fs (Has (Below i k) x (Int j) ∷ Has p b (Int hi) ∷ []) (Has (Below i (k + 1)) x (Int (j +ℤ pos 1)))
   again : {p : Trail} {n h w t l i : ℕ} (k : ℕ) → LoopStands S.checked n h w t l → IsOnBy fs i p n
       → RowRule S fs (Has (Below i k) t (Bool true) ∷ []) (On (Below i (k + 1)) t)
-  runs : {p : Trail} {n h w l i a : ℕ} {gs : List RowFact} (k : ℕ) → Stands S.checked n (node.Loop h w l) → IsOnBy fs i p n
-      → RowGoesOn S n w p i k true gs → BodyTurns (rows S.checked) w a → RowRule S fs gs (On (Below i k) a)
-  leaves : {p : Trail} {n h w l i : ℕ} {gs : List RowFact} (k : ℕ) → Stands S.checked n (node.Loop h w l) → IsOnBy fs i p n
-      → RowGoesOn S n w p i k false gs → RowRule S fs gs (On (Below i k) l)
-  hands : {p : Trail} {n h w l m o v i : ℕ} {u : RowValue} (k : ℕ) → Stands S.checked n (node.Loop h w l) → NextStands S.checked m h o v → IsOnBy fs i p n
+  runs : {p : Trail} {n h w l i a : ℕ} {gs : List RowFact} (k : ℕ) → Stands S.checked n (node.Loop h w l)
+      → IsOnBy fs i p n → RowGoesOn S n w p i k true gs → BodyTurns (rows S.checked) w a
+      → RowRule S fs gs (On (Below i k) a)
+  leaves : {p : Trail} {n h w l i : ℕ} {gs : List RowFact} (k : ℕ) → Stands S.checked n (node.Loop h w l)
+      → IsOnBy fs i p n → RowGoesOn S n w p i k false gs → RowRule S fs gs (On (Below i k) l)
+  hands : {p : Trail} {n h w l m o v i : ℕ} {u : RowValue} (k : ℕ) → Stands S.checked n (node.Loop h w l)
+      → NextStands S.checked m h o v → IsOnBy fs i p n
       → RowRule S fs (Has (Below i k) v u ∷ []) (Has (Below i (k + 1)) m u)
-  leads_out : {p : Trail} {n h w l i : ℕ} {u : RowValue} (k : ℕ) → Stands S.checked n (node.Loop h w l) → IsOnBy fs i p n
-      → RowRule S fs (Has (Below i k) l u ∷ []) (Has p n u)
+  leads_out : {p : Trail} {n h w l i : ℕ} {u : RowValue} (k : ℕ) → Stands S.checked n (node.Loop h w l)
+      → IsOnBy fs i p n → RowRule S fs (Has (Below i k) l u ∷ []) (Has p n u)
 
 -- all of the facts are among these
 abbrev pub AllAmong : List RowFact → List RowFact → Type 0
@@ -144,7 +167,8 @@ module _ (S : Source) (k : ℕ) (fs : List RowFact) (s : IsRound S k fs) where
 
   -- the fact is of a thing, speaks of what is there, and is one of the next round
   abbrev pub Sound : RowFact → Type 0
-  Sound g = IsOfThing S g × NamesArrays S.checked fs g × BeginsOn fs (path_of g) × Rounds S (suc k) (fact_of S.checked fs g)
+  Sound g =
+      IsOfThing S g × NamesArrays S.checked fs g × BeginsOn fs (path_of g) × Rounds S (suc k) (fact_of S.checked fs g)
 
   -- what is so known of facts that are there
   begun : (g : RowFact) → Among g fs → BeginsOn fs (path_of g)
@@ -163,15 +187,19 @@ module _ (S : Source) (k : ℕ) (fs : List RowFact) (s : IsRound S k fs) where
   -- where a name or a loop looks for a binder
   look-path : (p : Trail) (n c : ℕ) → n < length (rows S.checked) → c < length (rows S.checked)
       → Of (out_of fs (far_from S.checked n (Some c)) p) ≡ without (between S n c) (Of p)
-  look-path p n c l m = path-out S.checked fs s.found.before (far_from S.checked n (Some c)) p ∙ ap (λ d. without d (Of p)) (far-between S n c l m)
+  look-path p n c l m =
+      path-out S.checked fs s.found.before (far_from S.checked n (Some c)) p
+      ∙ ap (λ d. without d (Of p)) (far-between S n c l m)
 
   -- what Has a constant's value
-  constant-known : (p : Trail) (a : ℕ) (c : Constant) → Among (Has p a (row_value c)) fs → Rounds S k (fact.Has (Of p) (place S.checked a) (value_of c))
+  constant-known : (p : Trail) (a : ℕ) (c : Constant) → Among (Has p a (row_value c)) fs
+      → Rounds S k (fact.Has (Of p) (place S.checked a) (value_of c))
   constant-known p a c h =
       let P : SourceValue → Type 0 = λ v. Rounds S k (fact.Has (Of p) (place S.checked a) v) in
       subst P (value-row S fs c) (only (Has p a (row_value c)) h)
 
-  constant-has : (p : Trail) (a : ℕ) (c : Constant) → IsThing S a → BeginsOn fs p → Rounds S (suc k) (fact.Has (Of p) (place S.checked a) (value_of c))
+  constant-has : (p : Trail) (a : ℕ) (c : Constant) → IsThing S a → BeginsOn fs p
+      → Rounds S (suc k) (fact.Has (Of p) (place S.checked a) (value_of c))
       → Sound (Has p a (row_value c))
   constant-has p a c t b h =
       let P : SourceValue → Type 0 = λ v. Rounds S (suc k) (fact.Has (Of p) (place S.checked a) v) in
@@ -181,16 +209,29 @@ module _ (S : Source) (k : ℕ) (fs : List RowFact) (s : IsRound S k fs) where
   name-by : (i n : ℕ) (p : Trail) → IsOnBy fs i p n → name_at S.checked fs i ≡ site (Of p) (place S.checked n)
   name-by i n p b = ap (λ g. site (Of (path_of g)) (place S.checked (row_of g))) b.fact
 
-  array-by : {nested : Truth} (i n a b : ℕ) (p : Trail) → Stands S.checked n (node.Array nested a b) → IsOnBy fs i p n → IsArrayOn S.checked fs i
+  array-by : {nested : Truth} (i n a b : ℕ) (p : Trail) → Stands S.checked n (node.Array nested a b) → IsOnBy fs i p n
+      → IsArrayOn S.checked fs i
   array-by {nested} i n a b p st o =
-      record { path = p; array = n; nested = nested; low = a; high = b; within = o.within; on = o.fact; stands = st.node }
+      record {
+        path = p;
+        array = n;
+        nested = nested;
+        low = a;
+        high = b;
+        within = o.within;
+        on = o.fact;
+        stands =
+            st.node;
+      }
 
-  on-sound : (p : Trail) (n a : ℕ) → IsThing S a → Among (On p n) fs → Rule S (fact.On (Of p) (place S.checked n) ∷ []) (fact.On (Of p) (place S.checked a))
+  on-sound : (p : Trail) (n a : ℕ) → IsThing S a → Among (On p n) fs
+      → Rule S (fact.On (Of p) (place S.checked n) ∷ []) (fact.On (Of p) (place S.checked a))
       → Sound (On p a)
-  on-sound p n a t h r = (t, tt, begun (On p n) h, inr (fact.On (Of p) (place S.checked n) ∷ [], r, (only (On p n) h, tt)))
+  on-sound p n a t h r =
+      (t, tt, begun (On p n) h, inr (fact.On (Of p) (place S.checked n) ∷ [], r, (only (On p n) h, tt)))
 
-  turned-sound : (p : Trail) (n a : ℕ) → n < length (rows S.checked) → is_call (at (rows S.checked) n).node ≡ false → Turns (rows S.checked) n a
-      → Among (On p n) fs → Sound (On p a)
+  turned-sound : (p : Trail) (n a : ℕ) → n < length (rows S.checked) → is_call (at (rows S.checked) n).node ≡ false
+      → Turns (rows S.checked) n a → Among (On p n) fs → Sound (On p a)
   turned-sound p n a l k (operand {o = o} e) h =
       let st : Stands S.checked n (node.Unary o a) = record { within = l; node = e } in
       on-sound p n a (part-thing S n a (node.Unary o a) st refl) h (rule.operand_on st)
@@ -202,7 +243,8 @@ module _ (S : Source) (k : ℕ) (fs : List RowFact) (s : IsRound S k fs) where
       on-sound p n a (part-thing S n a (node.Binary o b a) st (inr refl)) h (rule.right_on st)
   turned-sound p n a l k (test {s = i} {x = x} {y = y} e f) h =
       let st : Stands S.checked n (node.If i x y) = record { within = l; node = e } in
-      let sp : Stands S.checked i (node.Split a) = record { within = part-within S n i (node.If i x y) st (inl refl); node = f } in
+      let sp : Stands S.checked i (node.Split a) =
+      record { within = part-within S n i (node.If i x y) st (inl refl); node = f } in
       on-sound p n a (part-thing S i a (node.Split a) sp refl) h (rule.test_on (rule.then_arm st sp))
   turned-sound p n a l k (argument e w f) h = let c : true ≡ false = sym (ap is_call e) ∙ k in cc
   turned-sound p n a l k (index_low {h = g} {w = w} {l = d} {b = b} e f) h =
@@ -235,18 +277,21 @@ module _ (S : Source) (k : ℕ) (fs : List RowFact) (s : IsRound S k fs) where
       on-sound p n a (part-thing S n a (node.Fetch t a) st (inr refl)) h (rule.fetch_index_on st)
   turned-sound p n a l k (address_target {a = b} {v = x} {i = i} e f) h =
       let st : Stands S.checked n (node.Store b x) = record { within = l; node = e } in
-      let ad : Stands S.checked b (node.Address a i) = record { within = part-within S n b (node.Store b x) st (inl refl); node = f } in
+      let ad : Stands S.checked b (node.Address a i) =
+      record { within = part-within S n b (node.Store b x) st (inl refl); node = f } in
       let ss : StoreStands S.checked n a i x = record { address = b; store = st; parts = ad } in
       on-sound p n a (part-thing S b a (node.Address a i) ad (inl refl)) h (rule.store_target_on ss)
   turned-sound p n a l k (address_index {a = b} {v = x} {t = t} e f) h =
       let st : Stands S.checked n (node.Store b x) = record { within = l; node = e } in
-      let ad : Stands S.checked b (node.Address t a) = record { within = part-within S n b (node.Store b x) st (inl refl); node = f } in
+      let ad : Stands S.checked b (node.Address t a) =
+      record { within = part-within S n b (node.Store b x) st (inl refl); node = f } in
       let ss : StoreStands S.checked n t a x = record { address = b; store = st; parts = ad } in
       on-sound p n a (part-thing S b a (node.Address t a) ad (inr refl)) h (rule.store_index_on ss)
   turned-sound p n a l k (stored_value {a = b} e) h =
       let st : Stands S.checked n (node.Store b a) = record { within = l; node = e } in
       let w = (table_of S.checked).address_of n b (record { value = a; within = l; node = e }) in
-      let ad : Stands S.checked b (node.Address w.target w.index) = record { within = part-within S n b (node.Store b a) st (inl refl); node = w.node } in
+      let ad : Stands S.checked b (node.Address w.target w.index) =
+      record { within = part-within S n b (node.Store b a) st (inl refl); node = w.node } in
       let ss : StoreStands S.checked n w.target w.index a = record { address = b; store = st; parts = ad } in
       on-sound p n a (part-thing S n a (node.Store b a) st refl) h (rule.store_value_on ss)
   turned-sound p n a l k (stored {b = b} {a = d} {v = x} e i f) h =
@@ -263,26 +308,29 @@ module _ (S : Source) (k : ℕ) (fs : List RowFact) (s : IsRound S k fs) where
       subst F (path-by i j n p b) (only (Has (Below i j) a v) h)
 
   -- by these facts the loop goes on or not, also in the source
-  goes-sound : (i j n w : ℕ) (p : Trail) (b : Truth) {gs : List RowFact} → IsOnBy fs i p n → RowGoesOn S n w p i j b gs → AllAmong fs gs
-      → (ps : List Fact) × GoesOn S n w (Of p) j b ps × Every (Rounds S k) ps
+  goes-sound : (i j n w : ℕ) (p : Trail) (b : Truth) {gs : List RowFact} → IsOnBy fs i p n → RowGoesOn S n w p i j b gs
+      → AllAmong fs gs → (ps : List Fact) × GoesOn S n w (Of p) j b ps × Every (Rounds S k) ps
   goes-sound i j n w p b o (by_predicate {t = t} d ls) h = (
     fact.Has (below (Of p) (place S.checked n) d) (place S.checked t) (value.Bool b) ∷ [],
     rule.by_predicate d ls,
     (run-has i d n t p (Bool b) o h.0, tt),
   )
   goes-sound i j n w p b o (by_bounds {a = a} {b = c} {lo = lo} {hi = hi} st e) h = (
-    fact.On (Of p) (place S.checked n) ∷ fact.Has (Of p) (place S.checked a) (value.Int lo) ∷ fact.Has (Of p) (place S.checked c) (value.Int hi) ∷ [],
+    fact.On (Of p) (place S.checked n) ∷ fact.Has (Of p) (place S.checked a) (value.Int lo)
+        ∷ fact.Has (Of p) (place S.checked c) (value.Int hi) ∷ [],
     rule.by_bounds st e,
     (only (On p n) h.0, (only (Has p a (Int lo)) h.1.0, (only (Has p c (Int hi)) h.1.1.0, tt))),
   )
   goes-sound i j n w p b o (by_index {x = x} {b = c} {j = y} {hi = hi} d st e) h =
-      let ps = fact.Has (below (Of p) (place S.checked n) d) (place S.checked x) (value.Int y) ∷ fact.Has (Of p) (place S.checked c) (value.Int hi) ∷ [] in
+      let ps = fact.Has (below (Of p) (place S.checked n) d) (place S.checked x) (value.Int y)
+      ∷ fact.Has (Of p) (place S.checked c) (value.Int hi) ∷ [] in
       let q : suc d ≡ d + 1 = omega arith in
       let F : ℕ → Type 0 = λ m. GoesOn S n w (Of p) m b ps in
       (ps, subst F q (rule.by_index d st e), (run-has i d n x p (Int y) o h.0, (only (Has p c (Int hi)) h.1.0, tt)))
 
-  runs-sound : (i j n h w l a : ℕ) (p : Trail) {gs : List RowFact} → Stands S.checked n (node.Loop h w l) → IsOnBy fs i p n
-      → RowGoesOn S n w p i j true gs → AllAmong fs gs → BodyTurns (rows S.checked) w a → Sound (On (Below i j) a)
+  runs-sound : (i j n h w l a : ℕ) (p : Trail) {gs : List RowFact} → Stands S.checked n (node.Loop h w l)
+      → IsOnBy fs i p n → RowGoesOn S n w p i j true gs → AllAmong fs gs → BodyTurns (rows S.checked) w a
+      → Sound (On (Below i j) a)
   runs-sound i j n h w l a p lo o go known (of_binding {b = d} {m = m} {x = x} u z side st is) =
       let P = Of p in
       let g = goes-sound i j n w p true o go known in
@@ -290,7 +338,15 @@ module _ (S : Source) (k : ℕ) (fs : List RowFact) (s : IsRound S k fs) where
       let v = (around-within (rows S.checked) d m st.inside).1 in
       let tb : Stands S.checked m (node.Binding x a) = record { within = omega arith; node = is } in
       let y : BodyBinds S.checked w m a =
-      record { body = d; name = x; ends = record { within = u; node = z }; side = side; statement = st; binding = tb } in (
+      record {
+        body = d;
+        name = x;
+        ends = record { within = u; node = z };
+        side = side;
+        statement = st;
+        binding =
+            tb;
+      } in (
         part-thing S m a (node.Binding x a) tb refl,
         tt,
         begins-by i j n p o,
@@ -303,7 +359,15 @@ module _ (S : Source) (k : ℕ) (fs : List RowFact) (s : IsRound S k fs) where
       let v = (around-within (rows S.checked) d a st.inside).1 in
       let tb : Stands S.checked a (node.Store c x) = record { within = omega arith; node = is } in
       let y : BodyStores S.checked w a =
-      record { body = d; address = c; value = x; ends = record { within = u; node = z }; side = side; statement = st; store = tb } in (
+      record {
+        body = d;
+        address = c;
+        value = x;
+        ends = record { within = u; node = z };
+        side = side;
+        statement = st;
+        store = tb;
+      } in (
         node-thing S a (node.Store c x) tb refl,
         tt,
         begins-by i j n p o,
@@ -324,7 +388,8 @@ module _ (S : Source) (k : ℕ) (fs : List RowFact) (s : IsRound S k fs) where
   sound main h = (main-thing S, tt, tt, inr ([], rule.main_on, tt))
   sound (input {n = n} {c = c} i) h =
       let q = input_param i in
-      constant-has Outermost n c (record { within = q.0; thing = thing-param (at (rows S.checked) n).node q.1 }) tt (inr ([], rule.param_has i, tt))
+      constant-has Outermost n c (record { within = q.0; thing = thing-param (at (rows S.checked) n).node q.1 }) tt
+      (inr ([], rule.param_has i, tt))
   sound (turned {p = p} {n = n} {a = a} l u) h = turned-sound p n a l u.1 u.0 h.0
   sound (literal {p = p} {n = n} {c = c} st) h =
       constant-has p n c (node-thing S n (node.Literal c) st refl) (begun (On p n) h.0)
@@ -337,7 +402,8 @@ module _ (S : Source) (k : ℕ) (fs : List RowFact) (s : IsRound S k fs) where
       ))
   sound (binary {p = p} {n = n} {a = a} {b = b} {o = o} {x = x} c d st e) h =
       constant-has p n x (node-thing S n (node.Binary o a b) st refl) (begun (On p n) h.0) (inr (
-        fact.On (Of p) (place S.checked n) ∷ fact.Has (Of p) (place S.checked a) (value_of c) ∷ fact.Has (Of p) (place S.checked b) (value_of d) ∷ [],
+        fact.On (Of p) (place S.checked n) ∷ fact.Has (Of p) (place S.checked a) (value_of c)
+            ∷ fact.Has (Of p) (place S.checked b) (value_of d) ∷ [],
         rule.binary_has c d st e,
         (only (On p n) h.0, (constant-known p a c h.1.0, (constant-known p b d h.1.1.0, tt))),
       ))
@@ -349,7 +415,8 @@ module _ (S : Source) (k : ℕ) (fs : List RowFact) (s : IsRound S k fs) where
         s.found.arrays (Has q b v) h.1.0,
         begun (On p n) h.0,
         inr (
-          fact.On (Of p) (place S.checked n) ∷ fact.Has (without (between S n b) (Of p)) (place S.checked b) (value_at S.checked fs v) ∷ [],
+          fact.On (Of p) (place S.checked n)
+              ∷ fact.Has (without (between S n b) (Of p)) (place S.checked b) (value_at S.checked fs v) ∷ [],
           rule.name_has st e,
           (only (On p n) h.0, (subst F (look-path p n b st.within w) (only (Has q b v) h.1.0), tt)),
         ),
@@ -379,7 +446,8 @@ module _ (S : Source) (k : ℕ) (fs : List RowFact) (s : IsRound S k fs) where
     s.found.arrays (Has p x v) h.1.1.0,
     begun (On p n) h.0,
     inr (
-      fact.On (Of p) (place S.checked n) ∷ fact.Has (Of p) (place S.checked t) (value.Bool true) ∷ fact.Has (Of p) (place S.checked x)
+      fact.On (Of p) (place S.checked n) ∷ fact.Has (Of p) (place S.checked t) (value.Bool true)
+          ∷ fact.Has (Of p) (place S.checked x)
           (value_at S.checked fs v) ∷ [],
       rule.conditional_has (rule.then_arm st sp),
       (only (On p n) h.0, (only (Has p t (Bool true)) h.1.0, (only (Has p x v) h.1.1.0, tt))),
@@ -390,7 +458,8 @@ module _ (S : Source) (k : ℕ) (fs : List RowFact) (s : IsRound S k fs) where
     s.found.arrays (Has p y v) h.1.1.0,
     begun (On p n) h.0,
     inr (
-      fact.On (Of p) (place S.checked n) ∷ fact.Has (Of p) (place S.checked t) (value.Bool false) ∷ fact.Has (Of p) (place S.checked y)
+      fact.On (Of p) (place S.checked n) ∷ fact.Has (Of p) (place S.checked t) (value.Bool false)
+          ∷ fact.Has (Of p) (place S.checked y)
           (value_at S.checked fs v) ∷ [],
       rule.conditional_has (rule.else_arm st sp),
       (only (On p n) h.0, (only (Has p t (Bool false)) h.1.0, (only (Has p y v) h.1.1.0, tt))),
@@ -410,7 +479,11 @@ module _ (S : Source) (k : ℕ) (fs : List RowFact) (s : IsRound S k fs) where
     node-thing S n (node.Binding x a) st refl,
     s.found.arrays (Has p a v) h.0,
     begun (Has p a v) h.0,
-    inr (fact.Has (Of p) (place S.checked a) (value_at S.checked fs v) ∷ [], rule.binding_has st, (only (Has p a v) h.0, tt)),
+    inr (
+      fact.Has (Of p) (place S.checked a) (value_at S.checked fs v) ∷ [],
+      rule.binding_has st,
+      (only (Has p a v) h.0, tt),
+    ),
   )
   sound (made_shape {p = p} {n = n} {a = a} {b = b} {i = i} {lo = lo} {hi = hi} st o e) h =
       let F : Site → Type 0 = λ x. Rounds S (suc k) (shape x lo hi) in (
@@ -418,7 +491,8 @@ module _ (S : Source) (k : ℕ) (fs : List RowFact) (s : IsRound S k fs) where
         array-by i n a b p st o,
         tt,
         subst F (sym (name-by i n p o)) (inr (
-          fact.On (Of p) (place S.checked n) ∷ fact.Has (Of p) (place S.checked a) (value.Int lo) ∷ fact.Has (Of p) (place S.checked b) (value.Int hi) ∷ [],
+          fact.On (Of p) (place S.checked n) ∷ fact.Has (Of p) (place S.checked a) (value.Int lo)
+              ∷ fact.Has (Of p) (place S.checked b) (value.Int hi) ∷ [],
           rule.shape_made st e,
           (only (On p n) h.0, (only (Has p a (Int lo)) h.1.0, (only (Has p b (Int hi)) h.1.1.0, tt))),
         )),
@@ -429,7 +503,8 @@ module _ (S : Source) (k : ℕ) (fs : List RowFact) (s : IsRound S k fs) where
         array-by i n a b p st o,
         begun (On p n) h.0,
         subst F (sym (name-by i n p o)) (inr (
-          fact.On (Of p) (place S.checked n) ∷ fact.Has (Of p) (place S.checked a) (value.Int lo) ∷ fact.Has (Of p) (place S.checked b) (value.Int hi) ∷ [],
+          fact.On (Of p) (place S.checked n) ∷ fact.Has (Of p) (place S.checked a) (value.Int lo)
+              ∷ fact.Has (Of p) (place S.checked b) (value.Int hi) ∷ [],
           rule.array_has st e,
           (only (On p n) h.0, (only (Has p a (Int lo)) h.1.0, (only (Has p b (Int hi)) h.1.1.0, tt))),
         )),
@@ -439,10 +514,14 @@ module _ (S : Source) (k : ℕ) (fs : List RowFact) (s : IsRound S k fs) where
     s.found.arrays (Has p t (Name x)) h.1.0,
     begun (On p n) h.0,
     inr (
-      fact.On (Of p) (place S.checked n) ∷ fact.Has (Of p) (place S.checked t) (value.Name (name_at S.checked fs x)) ∷ fact.Has (Of p) (place S.checked i)
+      fact.On (Of p) (place S.checked n) ∷ fact.Has (Of p) (place S.checked t) (value.Name (name_at S.checked fs x))
+          ∷ fact.Has (Of p) (place S.checked i)
           (value.Int j) ∷ shape (name_at S.checked fs x) lo hi ∷ [],
       rule.asks st e,
-      (only (On p n) h.0, (only (Has p t (Name x)) h.1.0, (only (Has p i (Int j)) h.1.1.0, (only (Shape x lo hi) h.1.1.1.0, tt)))),
+      (
+        only (On p n) h.0,
+        (only (Has p t (Name x)) h.1.0, (only (Has p i (Int j)) h.1.1.0, (only (Shape x lo hi) h.1.1.1.0, tt))),
+      ),
     ),
   )
   sound (answered {p = p} {q = q} {n = n} {m = m} {s = x} {j = j} {v = v}) h = (
@@ -450,7 +529,8 @@ module _ (S : Source) (k : ℕ) (fs : List RowFact) (s : IsRound S k fs) where
     (s.found.arrays (Put q m x j v) h.1.0).1,
     begun (Ask p n x j) h.0,
     inr (
-      ask (site (Of p) (place S.checked n)) (name_at S.checked fs x) j ∷ put (name_at S.checked fs x) j (value_at S.checked fs v)
+      ask (site (Of p) (place S.checked n)) (name_at S.checked fs x) j
+          ∷ put (name_at S.checked fs x) j (value_at S.checked fs v)
           (site (Of q) (place S.checked m)) ∷ [],
       rule.fetch_has,
       (only (Ask p n x j) h.0, (only (Put q m x j v) h.1.0, tt)),
@@ -461,8 +541,10 @@ module _ (S : Source) (k : ℕ) (fs : List RowFact) (s : IsRound S k fs) where
     (s.found.arrays (Has p t (Name x)) h.1.0, s.found.arrays (Has p y v) h.1.1.1.0),
     begun (On p m) h.0,
     inr (
-      fact.On (Of p) (place S.checked m) ∷ fact.Has (Of p) (place S.checked t) (value.Name (name_at S.checked fs x)) ∷ fact.Has (Of p) (place S.checked i)
-          (value.Int j) ∷ fact.Has (Of p) (place S.checked y) (value_at S.checked fs v) ∷ shape (name_at S.checked fs x) lo hi ∷ [],
+      fact.On (Of p) (place S.checked m) ∷ fact.Has (Of p) (place S.checked t) (value.Name (name_at S.checked fs x))
+          ∷ fact.Has (Of p) (place S.checked i)
+          (value.Int j) ∷ fact.Has (Of p) (place S.checked y) (value_at S.checked fs v)
+          ∷ shape (name_at S.checked fs x) lo hi ∷ [],
       rule.puts st e,
       (
         only (On p m) h.0,
@@ -483,7 +565,11 @@ module _ (S : Source) (k : ℕ) (fs : List RowFact) (s : IsRound S k fs) where
         part-thing S d b (node.Def x g j b) df refl,
         tt,
         begins-by i 0 n p o,
-        subst F (sym (path-by i 0 n p o)) (inr (fact.On (Of p) (place S.checked n) ∷ [], rule.callee_on st bd df, (only (On p n) h.0, tt))),
+        subst F (sym (path-by i 0 n p o)) (inr (
+          fact.On (Of p) (place S.checked n) ∷ [],
+          rule.callee_on st bd df,
+          (only (On p n) h.0, tt),
+        )),
       )
   sound (passes {p = p} {n = n} {h = g} {m = m} {j = j} {a = a} {q = q} {i = i} {v = v} st t bd df there o) h =
       let R = rows S.checked in
@@ -504,7 +590,8 @@ module _ (S : Source) (k : ℕ) (fs : List RowFact) (s : IsRound S k fs) where
         s.found.arrays (Has (Below i 0) b v) h.1.0,
         begun (On p n) h.0,
         inr (
-          fact.On (Of p) (place S.checked n) ∷ fact.Has (below (Of p) (place S.checked n) 0) (place S.checked b) (value_at S.checked fs v) ∷ [],
+          fact.On (Of p) (place S.checked n)
+              ∷ fact.Has (below (Of p) (place S.checked n) 0) (place S.checked b) (value_at S.checked fs v) ∷ [],
           rule.call_has st bd df,
           (only (On p n) h.0, (subst F (path-by i 0 n p o) (only (Has (Below i 0) b v) h.1.0), tt)),
         ),
@@ -514,7 +601,11 @@ module _ (S : Source) (k : ℕ) (fs : List RowFact) (s : IsRound S k fs) where
         test-thing S n g w t l ls,
         tt,
         begins-by i 0 n p o,
-        subst F (sym (path-by i 0 n p o)) (inr (fact.On (Of p) (place S.checked n) ∷ [], rule.loop_test_on ls, (only (On p n) h.0, tt))),
+        subst F (sym (path-by i 0 n p o)) (inr (
+          fact.On (Of p) (place S.checked n) ∷ [],
+          rule.loop_test_on ls,
+          (only (On p n) h.0, tt),
+        )),
       )
   sound (enters {p = p} {n = n} {h = g} {m = m} {o = x} {v = v} {c = c} {i = i} {u = u} st y e o) h =
       let q = use_binder S.checked m g x v c y e in
@@ -525,7 +616,8 @@ module _ (S : Source) (k : ℕ) (fs : List RowFact) (s : IsRound S k fs) where
         s.found.arrays (Has d c u) h.1.0,
         begins-by i 0 n p o,
         subst F (sym (path-by i 0 n p o)) (inr (
-          fact.On (Of p) (place S.checked n) ∷ fact.Has (without (between S n c) (Of p)) (place S.checked c) (value_at S.checked fs u) ∷ [],
+          fact.On (Of p) (place S.checked n)
+              ∷ fact.Has (without (between S n c) (Of p)) (place S.checked c) (value_at S.checked fs u) ∷ [],
           rule.first_has st y e,
           (only (On p n) h.0, (subst G (look-path p n c st.within q.0) (only (Has d c u) h.1.0), tt)),
         )),
@@ -536,7 +628,8 @@ module _ (S : Source) (k : ℕ) (fs : List RowFact) (s : IsRound S k fs) where
         tt,
         begins-by i 0 n p o,
         subst F (sym (path-by i 0 n p o)) (inr (
-          fact.On (Of p) (place S.checked n) ∷ fact.Has (Of p) (place S.checked a) (value.Int lo) ∷ fact.Has (Of p) (place S.checked b) (value.Int hi) ∷ [],
+          fact.On (Of p) (place S.checked n) ∷ fact.Has (Of p) (place S.checked a) (value.Int lo)
+              ∷ fact.Has (Of p) (place S.checked b) (value.Int hi) ∷ [],
           rule.index_begins st e,
           (only (On p n) h.0, (only (Has p a (Int lo)) h.1.0, (only (Has p b (Int hi)) h.1.1.0, tt))),
         )),
@@ -569,7 +662,8 @@ module _ (S : Source) (k : ℕ) (fs : List RowFact) (s : IsRound S k fs) where
           (run-has i j n t p (Bool true) o h.0, tt),
         )),
       )
-  sound (runs {p = p} {n = n} {h = g} {w = w} {l = l} {i = i} {a = a} j st o go b) h = runs-sound i j n g w l a p st o go h b
+  sound (runs {p = p} {n = n} {h = g} {w = w} {l = l} {i = i} {a = a} j st o go b) h =
+      runs-sound i j n g w l a p st o go h b
   sound (leaves {p = p} {n = n} {h = g} {w = w} {l = l} {i = i} j st o go) h =
       let P = Of p in
       let q = goes-sound i j n w p false o go h in

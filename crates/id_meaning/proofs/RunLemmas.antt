@@ -1,5 +1,6 @@
 -- Round after round: each learns what follows from the news of the one before.
-use Rattle.std.proofs.Common.{◌≡◌, inl, inr, ℕ, zero, suc, ◌+◌, ◌-◌, ◌≤◌, ◌<◌, List, [], ◌∷◌, ◌++◌, length, drop, take, refl, ap, sym, ◌∙◌, subst, arith}
+use Rattle.std.proofs.Common.{◌≡◌, inl, inr, ℕ, zero, suc, ◌+◌, ◌-◌, ◌≤◌, ◌<◌, List, [], ◌∷◌, ◌++◌, length, drop, take}
+use Rattle.std.proofs.Common.{refl, ap, sym, ◌∙◌, subst, arith}
 use Rattle.std.proofs.Math.Seq.{drop-append_seam}
 use Rattle.std.proofs.lemmas.List.{append-nil, length-append, length-drop, nil_from_length, take_all}
 use Rattle.std.specs.Prelude.{Result, Ok, Err, IfErr, IsErrAnd}
@@ -48,7 +49,8 @@ use Rattle.id_facts.proofs.WaitsLemmas.{AreWaits-more}
 -- ---- where nothing is news
 
 -- where two rounds have the same facts, the next one has them, too
-once-more : (S : Source) (k : ℕ) (fs : List RowFact) → IsRound S k fs → IsRound S (suc k) fs → IsRound S (suc (suc k)) fs
+once-more : (S : Source) (k : ℕ) (fs : List RowFact) → IsRound S k fs → IsRound S (suc k) fs
+    → IsRound S (suc (suc k)) fs
 once-more S k fs a b = record { all = all; only = λ g h. inl (b.only g h); found = b.found }
   where
     back : (f : Fact) → Rounds S (suc k) f → Rounds S k f
@@ -63,7 +65,8 @@ once-more S k fs a b = record { all = all; only = λ g h. inl (b.only g h); foun
     all f (inr h) = b.all f (inr (h.0, h.1, each h.0 h.2))
 
 -- and each later one
-pub still : (S : Source) (d k : ℕ) (fs : List RowFact) → IsRound S k fs → IsRound S (suc k) fs → IsRound S (d + suc k) fs
+pub still : (S : Source) (d k : ℕ) (fs : List RowFact) → IsRound S k fs → IsRound S (suc k) fs
+    → IsRound S (d + suc k) fs
 still S zero k fs a b =
     let e : 0 + suc k ≡ suc k = omega arith in
     let P : ℕ → Type 0 = λ n. IsRound S n fs in
@@ -76,7 +79,8 @@ still S (suc d) k fs a b =
 -- ---- the numbers of iterations
 
 -- in a round no iteration has a number above that of the round
-few-numbers : (S : Source) (r : ℕ) (fs : List RowFact) → IsRound S r fs → r < 18446744073709551615 → (i k n : ℕ) (v : RowValue) → Among (Has (Below i k) n v) fs
+few-numbers : (S : Source) (r : ℕ) (fs : List RowFact) → IsRound S r fs → r < 18446744073709551615
+    → (i k n : ℕ) (v : RowValue) → Among (Has (Below i k) n v) fs
     → k < 18446744073709551615
 few-numbers S r fs s small i k n v h =
     let P = S.checked in
@@ -84,7 +88,8 @@ few-numbers S r fs s small i k n v h =
     let m = row_of (fact_at fs i) in
     let F : Path → Type 0 = λ q. Rounds S r (fact.Has q (place P n) (value_at P fs v)) in
     let e = path-below P fs s.found.before i p m k refl refl in
-    let l = last-number S r (path_at P fs p) (place P m) k (place P n) (value_at P fs v) (subst F e (s.only (Has (Below i k) n v) h)) in
+    let l = last-number S r (path_at P fs p) (place P m) k (place P n) (value_at P fs v)
+    (subst F e (s.only (Has (Below i k) n v) h)) in
     omega arith
 
 -- ---- round after round
@@ -149,10 +154,14 @@ module _ (S : Source) (r : ℕ) (a : Read) (fs : List RowFact) (f : Front S r a 
       let h = ap length f.parts in
       let k = length-append (items a.cells) f.news in
       let none : f.news ≡ [] = nil_from_length f.news (omega arith) in
-      let same : items a.cells ≡ fs = sym (append-nil (items a.cells)) ∙ ap (λ y. items a.cells ++ y) (sym none) ∙ sym f.parts in
+      let same : items a.cells ≡ fs =
+      sym (append-nil (items a.cells)) ∙ ap (λ y. items a.cells ++ y) (sym none) ∙ sym f.parts in
       let R : List RowFact → Type 0 = λ y. IsRound S f.before y in
       let N : ℕ → Type 0 = λ k. IsRound S k fs in
-      record { round = subst N q (still S (n - suc f.before) f.before fs (subst R same f.old) (subst N (sym j) f.now)); few = f.few }
+      record {
+        round = subst N q (still S (n - suc f.before) f.before fs (subst R same f.old) (subst N (sym j) f.now));
+        few = f.few;
+      }
 
   module _ (small : r < 18446744073709551615) (b : Read) (ds : List RowFact) (g : FollowsNews a b fs ds) where
     items-are : items b.cells ≡ fs
@@ -204,7 +213,9 @@ module _ (S : Source) (r : ℕ) (a : Read) (fs : List RowFact) (f : Front S r a 
     learns = learns-so fs ds (effects g.goes.front) learned
 
     pub front-more : (m : ℕ) → r < m → 1000000 < length ds → HasMoreFacts S m 1000000
-    front-more m k h = more-facts S (suc r) m 1000000 ds (learnt-part S r fs ds (effects g.goes.front) f.now rises learns) (omega arith) h
+    front-more m k h =
+        more-facts S (suc r) m 1000000 ds (learnt-part S r fs ds (effects g.goes.front) f.now rises learns)
+        (omega arith) h
 
     -- where all news have been followed, all that follows is there
     module _ (done-all : g.goes.rest ≡ []) where
@@ -212,21 +223,25 @@ module _ (S : Source) (r : ℕ) (a : Read) (fs : List RowFact) (f : Front S r a 
       all-news = front-parts ∙ ap (λ y. g.goes.front ++ y) done-all ∙ append-nil g.goes.front
 
       arisen : (x : RowFact) → Arises S (items b.cells) x → Among x ds
-      arisen x h = elim (arises-old-or-new S (items a.cells) (items b.cells) f.news (items-are ∙ f.parts) f.old.found.before now.found.apart x h) [
-        | inl o ↦ learnt-kept S r fs ds (effects g.goes.front) f.now rises learns x (f.all x o)
-        | inr o ↦
-            let F : List RowFact → Type 0 = λ y. Among o.0 y in
-            let few = few-numbers S r (items b.cells) now small in
-            let e =
-            all-follow S b.links b.waits b.cells g.kept.chained now.found turns reads args waiting few h.rule h.known
-            o.0 o.1 g.goes.front (subst F all-news o.2) in
-            learnt-has S r fs ds (effects g.goes.front) f.now rises learns x e
-      ]
+      arisen x h =
+          elim (arises-old-or-new S (items a.cells) (items b.cells) f.news (items-are ∙ f.parts) f.old.found.before
+          now.found.apart x h) [
+            | inl o ↦ learnt-kept S r fs ds (effects g.goes.front) f.now rises learns x (f.all x o)
+            | inr o ↦
+                let F : List RowFact → Type 0 = λ y. Among o.0 y in
+                let few = few-numbers S r (items b.cells) now small in
+                let e =
+                all-follow S b.links b.waits b.cells g.kept.chained now.found turns reads args waiting few h.rule
+                h.known
+                o.0 o.1 g.goes.front (subst F all-news o.2) in
+                learnt-has S r fs ds (effects g.goes.front) f.now rises learns x e
+          ]
 
       round-next : IsRound S (suc r) ds
       round-next =
           let F : RowFact → List RowFact → Type 0 = λ x y. Arises S y x in
-          learnt-round S r fs ds (effects g.goes.front) f.now rises learns (λ x a. arisen x (subst (F x) (sym items-are) a))
+          learnt-round S r fs ds (effects g.goes.front) f.now rises learns
+          (λ x a. arisen x (subst (F x) (sym items-are) a))
 
     pub front-next : (m : ℕ) → m ≡ suc r → length ds ≤ 1000000 → Front S m b ds
     front-next m q few = elim g.goes.done [
@@ -249,7 +264,8 @@ module _ (S : Source) (r : ℕ) (a : Read) (fs : List RowFact) (f : Front S r a 
 -- ---- how a run ends
 
 -- want of memory is a reason to stop
-pub stop-memory : {A : Type 0} → (S : Source) (n : ℕ) (r : Result A RoundsError) → IsErrAnd r (λ e. e ≡ Memory) → IfErr r (IsStop S n)
+pub stop-memory : {A : Type 0} → (S : Source) (n : ℕ) (r : Result A RoundsError) → IsErrAnd r (λ e. e ≡ Memory)
+    → IfErr r (IsStop S n)
 stop-memory S n (Ok a) is = tt
 stop-memory S n (Err e) is = let F : RoundsError → Type 0 = λ y. IsStop S n y in subst F (sym is) tt
 
@@ -277,7 +293,8 @@ goes-behind r d xs fs ds e g =
 
 -- where none have been followed, all is kept
 pub read-none : (P : Checked) (l : Links) (c : Cells) (W : Queues) → AreTurns (rows P) l.turns → AreReads P l.reads
-    → AreArgs P l.args → AreChained c → items c ≡ [] → width W ≡ 65536 → AreRead (record { checked = P; links = l; waits = W; cells = c })
+    → AreArgs P l.args → AreChained c → items c ≡ [] → width W ≡ 65536
+    → AreRead (record { checked = P; links = l; waits = W; cells = c })
 read-none P l c W turns reads args chained z wide = record {
   turns = turns;
   reads = reads;

@@ -1,5 +1,6 @@
 -- Two operands of one row are different rows.
-use Rattle.std.proofs.Common.{◌≡◌, inl, inr, ◌<◌, ◌+◌, ◌-◌, ℕ, zero, suc, Bool, true, false, List, [], ◌∷◌, length, refl, sym, ◌∙◌, subst, arith}
+use Rattle.std.proofs.Common.{◌≡◌, inl, inr, ◌<◌, ◌+◌, ◌-◌, ℕ, zero, suc, Bool, true, false, List, [], ◌∷◌, length}
+use Rattle.std.proofs.Common.{refl, sym, ◌∙◌, subst, arith}
 use Rattle.id_value.specs.List.{Among}
 use Rattle.id_value.proofs.AmongLemmas.{Among-either}
 use Rattle.id_value.specs.declared.BinaryOp.{BinaryOp}
@@ -7,15 +8,21 @@ use Rattle.id_grammar.specs.Tree.{Tree, binding, define, more, next, param, stor
 use Rattle.id_table.specs.declared.row.Row.{Row}
 use Rattle.id_table.specs.declared.row.Stand.{Stand}
 use Rattle.id_table.specs.declared.row.Node.{Node}
-use Rattle.id_table.specs.declared.row.Node.TheVariants.{Head, Param, Literal, Name, Unary, Binary, Split, If, Enter, Arg, Call, Block, Binding, Def, Program}
-use Rattle.id_table.specs.declared.row.Node.TheVariants.{Start, LoopHead, Variable, Entries, Switches, Turn, NextUse, Next, Body, Reset, Loop}
-use Rattle.id_table.specs.declared.row.Node.TheVariants.{Array, Fetch, Address, Store, Bounds, Carried, Within, Count, Index, Span}
+use Rattle.id_table.specs.declared.row.Node.TheVariants.{Head, Param, Literal, Name, Unary, Binary, Split, If, Enter}
+use Rattle.id_table.specs.declared.row.Node.TheVariants.{Arg, Call, Block, Binding, Def, Program}
+use Rattle.id_table.specs.declared.row.Node.TheVariants.{Start, LoopHead, Variable, Entries, Switches, Turn, NextUse}
+use Rattle.id_table.specs.declared.row.Node.TheVariants.{Next, Body, Reset, Loop}
+use Rattle.id_table.specs.declared.row.Node.TheVariants.{Array, Fetch, Address, Store, Bounds, Carried, Within, Count}
+use Rattle.id_table.specs.declared.row.Node.TheVariants.{Index, Span}
 use Rattle.id_value.specs.declared.Kind.TheVariants as kind
 use Rattle.id_table.specs.Names.{first_names, number_of}
-use Rattle.id_table.specs.Rows.{Parts, add, add_arguments, add_entries, add_nexts, add_variables, arm, at, begin_counting, begin_for, carry, count_of, end_loop}
+use Rattle.id_table.specs.Rows.{Parts, add, add_arguments, add_entries, add_nexts, add_variables, arm, at}
+use Rattle.id_table.specs.Rows.{begin_counting, begin_for, carry, count_of, end_loop}
 use Rattle.id_table.specs.Rows.{enter_loop, in_top, last, naming, rows_of, size, with_row}
-use Rattle.id_table.specs.Trees.{IsProgramTree, IsTree, Sort, Expression, Arguments, Statements, by_literal, by_unary, by_binary, by_name, by_conditional}
-use Rattle.id_table.specs.Trees.{by_call, by_loop, by_for, by_array, by_fetch, next_statement, store_statement, no_arguments, more_arguments, by_block}
+use Rattle.id_table.specs.Trees.{IsProgramTree, IsTree, Sort, Expression, Arguments, Statements, by_literal, by_unary}
+use Rattle.id_table.specs.Trees.{by_binary, by_name, by_conditional}
+use Rattle.id_table.specs.Trees.{by_call, by_loop, by_for, by_array, by_fetch, next_statement, store_statement}
+use Rattle.id_table.specs.Trees.{no_arguments, more_arguments, by_block}
 use Rattle.id_table.specs.Trees.{no_statements, more_statements, no_params, more_params, no_defs, more_defs}
 use Rattle.id_table.proofs.AddedLemmas.{Are-add}
 use Rattle.id_check.proofs.NotedLemmas.{IsProgramTree-tree_in}
@@ -59,7 +66,8 @@ order {a} {b} s T d e =
     omega (arith, x, y)
 
 variables-two : (t : Tree) (s : Stand) (T : Parts) → AreTwo T.rows → AreTwo (add_variables s T t).rows
-variables-two (more (next x a p) b) s T h = variables-two b s (with_row T s p (size T) Variable) (push T s p (size T) Variable tt h)
+variables-two (more (next x a p) b) s T h =
+    variables-two b s (with_row T s p (size T) Variable) (push T s p (size T) Variable tt h)
 variables-two (more a b) s T h = variables-two b s T h
 variables-two _ s T h = h
 
@@ -76,7 +84,8 @@ carry-two : (s : Stand) (T : Parts) (q p : ℕ) → AreTwo T.rows → AreTwo (ca
 carry-two s T q p h =
     let I = with_row T s q (size T) (Carried kind.Int) in
     let B = with_row I s p (size I) (Carried kind.Int) in
-    push B s p (size B) (Carried kind.Bool) tt (push I s p (size I) (Carried kind.Int) tt (push T s q (size T) (Carried kind.Int) tt h))
+    push B s p (size B) (Carried kind.Bool) tt
+    (push I s p (size I) (Carried kind.Int) tt (push T s q (size T) (Carried kind.Int) tt h))
 
 begin-two : (s : Stand) (T : Parts) (ss : Tree) (q p : ℕ) → AreTwo T.rows → AreTwo (begin_for s T ss q p).rows
 begin-two s T ss q p h =
@@ -91,7 +100,8 @@ counting-two : (s : Stand) (T : Parts) (x : List ℕ) (q p : ℕ) → AreTwo T.r
 counting-two s T x q p h =
     let C = with_row T s p (size T) Count in
     let B = with_row C s p (size C) Turn in
-    push (naming B x) s q (size B) (Index (number_of B.names x)) tt (push C s p (size C) Turn tt (push T s p (size T) Count tt h))
+    push (naming B x) s q (size B) (Index (number_of B.names x)) tt
+    (push C s p (size C) Turn tt (push T s p (size T) Count tt h))
 
 end-two : (s o : Stand) (p f g r i : ℕ) (T : Parts) → AreTwo T.rows → AreTwo (end_loop s o p f g r i T).rows
 end-two s o p f g r i T h =
@@ -103,13 +113,16 @@ end-two s o p f g r i T h =
 abbrev bound : Stand → Parts → List ℕ → Tree → ℕ → Parts
 bound s T x a p = add s T (binding x a p)
 
-bound-two : (s : Stand) (T : Parts) (x : List ℕ) (a : Tree) (p : ℕ) → AreTwo (add s T a).rows → AreTwo (bound s T x a p).rows
-bound-two s T x a p h = let U = add s T a in push (naming U x) s p (size T) (Binding (number_of U.names x) (last U)) tt h
+bound-two : (s : Stand) (T : Parts) (x : List ℕ) (a : Tree) (p : ℕ) → AreTwo (add s T a).rows
+    → AreTwo (bound s T x a p).rows
+bound-two s T x a p h =
+    let U = add s T a in push (naming U x) s p (size T) (Binding (number_of U.names x) (last U)) tt h
 
 mutual
   add-two : {k : Sort} {t : Tree} (s : Stand) (T : Parts) → IsTree k t → AreTwo T.rows → AreTwo (add s T t).rows
   add-two s T (by_literal {v} {p}) h = push T s p (size T) (Literal v) tt h
-  add-two s T (by_unary {o} {a} {p} d) h = let U = add s T a in push U s p (size T) (Unary o (last U)) tt (add-two s T d h)
+  add-two s T (by_unary {o} {a} {p} d) h =
+      let U = add s T a in push U s p (size T) (Unary o (last U)) tt (add-two s T d h)
   add-two s T (by_binary {o} {a} {b} {p} d e) h =
       let U = add s T a in
       let V = add s U b in
@@ -122,7 +135,8 @@ mutual
       let X = add (arm s n true) V x in
       let Y = add (arm s n false) X y in
       push Y s p (size T) (If n (last X) (last Y)) tt
-      (add-two (arm s n false) X f (add-two (arm s n true) V e (push U s p (size T) (Split (last U)) tt (add-two s T d h))))
+      (add-two (arm s n false) X f
+      (add-two (arm s n true) V e (push U s p (size T) (Split (last U)) tt (add-two s T d h))))
   add-two s T (by_call {x} {a} {p} d) h =
       let n = Enter (number_of T.names x) in
       let E = with_row (naming T x) s p (size T) n in
@@ -172,8 +186,10 @@ mutual
   add-two s T no_arguments h = h
   add-two s T (more_arguments {a} {b} d e) h = add-two s (add s T a) e (add-two s T d h)
   add-two s T no_statements h = h
-  add-two s T (more_statements {x} {a} {ss} {p} d e) h = add-two s (bound s T x a p) e (bound-two s T x a p (add-two s T d h))
-  add-two s T (next_statement {x} {a} {ss} {p} d e) h = add-two s (bound s T x a p) e (bound-two s T x a p (add-two s T d h))
+  add-two s T (more_statements {x} {a} {ss} {p} d e) h =
+      add-two s (bound s T x a p) e (bound-two s T x a p (add-two s T d h))
+  add-two s T (next_statement {x} {a} {ss} {p} d e) h =
+      add-two s (bound s T x a p) e (bound-two s T x a p (add-two s T d h))
   add-two s T (store_statement {t} {i} {e} {ss} {p} d j f g) h =
       let U = add s T t in
       let V = add s U i in
@@ -190,25 +206,30 @@ mutual
       let H = with_row T (in_top m) p m Head in
       let U = add (in_top m) H ps in
       let V = add (in_top m) U b in
-      add-two s (add s T (define x ps k b p)) f (push (naming V x) (in_top m) p m (Def (number_of V.names x) m k (last V)) tt
+      add-two s (add s T (define x ps k b p)) f
+      (push (naming V x) (in_top m) p m (Def (number_of V.names x) m k (last V)) tt
       (add-two (in_top m) U e (add-two (in_top m) H d (push T (in_top m) p m Head tt h))))
 
-  arguments-two : {t : Tree} (s : Stand) (p e i : ℕ) (T : Parts) → IsTree Arguments t → AreTwo T.rows → AreTwo (add_arguments s p e i T t).rows
+  arguments-two : {t : Tree} (s : Stand) (p e i : ℕ) (T : Parts) → IsTree Arguments t → AreTwo T.rows
+      → AreTwo (add_arguments s p e i T t).rows
   arguments-two s p e i T no_arguments h = h
   arguments-two s p e i T (more_arguments {a} {b} d f) h =
       let U = add s T a in
       let n = Arg e i (last U) in
       arguments-two s p e (suc i) (with_row U s p e n) f (push U s p e n tt (add-two s T d h))
 
-  nexts-two : {t : Tree} (s : Stand) (i : ℕ) (T : Parts) → IsTree Statements t → AreTwo T.rows → AreTwo (add_nexts s i T t).rows
+  nexts-two : {t : Tree} (s : Stand) (i : ℕ) (T : Parts) → IsTree Statements t → AreTwo T.rows
+      → AreTwo (add_nexts s i T t).rows
   nexts-two s i T no_statements h = h
-  nexts-two s i T (more_statements {x} {a} {ss} {p} d e) h = nexts-two s i (bound s T x a p) e (bound-two s T x a p (add-two s T d h))
+  nexts-two s i T (more_statements {x} {a} {ss} {p} d e) h =
+      nexts-two s i (bound s T x a p) e (bound-two s T x a p (add-two s T d h))
   nexts-two s i T (next_statement {x} {a} {ss} {p} d e) h =
       let n = number_of T.names x in
       let V = with_row (naming T x) s p (size T) (NextUse n) in
       let U = add s V a in
       let m = Next n i (size T) (last U) in
-      nexts-two s (suc i) (with_row U s p (size T) m) e (push U s p (size T) m tt (add-two s V d (push (naming T x) s p (size T) (NextUse n) tt h)))
+      nexts-two s (suc i) (with_row U s p (size T) m) e
+      (push U s p (size T) m tt (add-two s V d (push (naming T x) s p (size T) (NextUse n) tt h)))
   nexts-two s k T (store_statement {t} {i} {e} {ss} {p} d j f g) h =
       let U = add s T t in
       let V = add s U i in
@@ -252,7 +273,12 @@ address-parts t i u j e = (cc, cc)
 -- the target of a store stands before the index, and that before the value
 pub store-order : (P : Checked) (m t i x : ℕ) → StoreStands P m t i x → (t < i) × (i < x)
 store-order P m t i x st =
-    let w = (table_of P).address_of m st.address (record { value = x; within = st.store.within; node = st.store.node }) in
+    let w = (table_of P).address_of m st.address (record {
+      value = x;
+      within = st.store.within;
+      node =
+          st.store.node;
+    }) in
     let e = address-parts w.target w.index t i (sym w.node ∙ st.parts.node) in
     (omega (arith, w.order, e.0, e.1), omega (arith, w.behind, w.before, e.1))
 

@@ -1,5 +1,6 @@
 -- Steps of a path that are written from the last of them on.
-use Rattle.std.proofs.Common.{◌≡◌, ℕ, zero, suc, ◌≤◌, ◌<◌, ◌+◌, inl, inr, List, [], ◌∷◌, ◌++◌, length, drop, append_assoc}
+use Rattle.std.proofs.Common.{◌≡◌, ℕ, zero, suc, ◌≤◌, ◌<◌, ◌+◌, inl, inr, List, [], ◌∷◌, ◌++◌, length, drop}
+use Rattle.std.proofs.Common.{append_assoc}
 use Rattle.std.proofs.Common.{refl, ap, sym, ◌∙◌, arith}
 use Rattle.std.proofs.Math.ListN.{drop_of_length-le, set}
 use Rattle.std.proofs.lemmas.Bool.{cases_lt}
@@ -36,7 +37,8 @@ whole P fs b Outermost l = absurd (omega arith)
 whole P fs b (Below i k) l = steps-suc P fs b i k
 
 -- the path without its last step has one step less
-pub depth-out : (fs : List RowFact) → AreBefore fs → (q : Trail) → 0 < depth_at fs q → depth_at fs q ≡ depth_at fs (outside fs q) + 1
+pub depth-out : (fs : List RowFact) → AreBefore fs → (q : Trail) → 0 < depth_at fs q
+    → depth_at fs q ≡ depth_at fs (outside fs q) + 1
 depth-out fs b Outermost l = absurd (omega arith)
 depth-out fs b (Below i k) l = depth-suc fs b i k
 
@@ -48,16 +50,18 @@ steps-none P fs q l =
     nil_from_length (all_steps P fs q) none
 
 -- those of the path that is left, and behind the place those that are written, are all
-pub record AreWritten (P : Checked) (fs : List RowFact) (q : Trail) (rest : Trail) (n size : ℕ) (xs : List PathStep) : Type 0 where
+pub record AreWritten (P : Checked) (fs : List RowFact) (q : Trail) (rest : Trail) (n size : ℕ)
+    (xs : List PathStep) : Type 0 where
   pub same : length xs ≡ size
   pub room : depth_at fs rest ≤ n
   pub within : n ≤ length xs
   pub all : all_steps P fs rest ++ drop n xs ≡ all_steps P fs q
 
 -- one step more is written
-pub written-more : (P : Checked) (fs : List RowFact) → AreBefore fs → (q rest out : Trail) (n m size : ℕ) (xs ys : List PathStep) (s : PathStep)
-    → AreWritten P fs q rest n size xs → 0 < depth_at fs rest → out ≡ outside fs rest → s ≡ last_step P fs rest → n ≡ m + 1 → ys ≡ set xs m s
-    → AreWritten P fs q out m size ys
+pub written-more : (P : Checked) (fs : List RowFact) → AreBefore fs
+    → (q rest out : Trail) (n m size : ℕ) (xs ys : List PathStep) (s : PathStep)
+    → AreWritten P fs q rest n size xs → 0 < depth_at fs rest → out ≡ outside fs rest → s ≡ last_step P fs rest
+    → n ≡ m + 1 → ys ≡ set xs m s → AreWritten P fs q out m size ys
 written-more P fs b q rest out n m size xs ys s h more e f g k = record {
   same = ap length k ∙ length-set xs m s ∙ h.same;
   room = (let d = depth-out fs b rest more in
@@ -78,13 +82,13 @@ written-more P fs b q rest out n m size xs ys s h more e f g k = record {
 }
 
 -- where no step is left, all are written
-pub written-all : (P : Checked) (fs : List RowFact) (q rest : Trail) (n size : ℕ) (xs : List PathStep) → AreWritten P fs q rest n size xs
-    → depth_at fs rest ≤ 0 → drop n xs ≡ all_steps P fs q
+pub written-all : (P : Checked) (fs : List RowFact) (q rest : Trail) (n size : ℕ) (xs : List PathStep)
+    → AreWritten P fs q rest n size xs → depth_at fs rest ≤ 0 → drop n xs ≡ all_steps P fs q
 written-all P fs q rest n size xs h none = ap (λ zs. zs ++ drop n xs) (sym (steps-none P fs rest none)) ∙ h.all
 
 -- none is written so far
-pub written-none : (P : Checked) (fs : List RowFact) (q : Trail) (n : ℕ) (xs : List PathStep) → length fs < length xs → n ≡ length xs
-    → AreWritten P fs q q n (length xs) xs
+pub written-none : (P : Checked) (fs : List RowFact) (q : Trail) (n : ℕ) (xs : List PathStep) → length fs < length xs
+    → n ≡ length xs → AreWritten P fs q q n (length xs) xs
 written-none P fs q n xs l e = record {
   same = refl;
   room = (let m = depth-most fs q in omega (arith, m, l, e));

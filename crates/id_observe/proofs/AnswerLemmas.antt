@@ -20,7 +20,8 @@ answers-first : (es : List ElementView) (i : ℕ) (e : ElementView) (v : Value) 
     → slice_get (answers (events_of (map (λ x. x.state) es))) 0 ≡ Some v
 answers-first es i e v at before first =
     let rest = events_of (map (λ x. x.state) (drop (suc i) es)) in
-    let whole : answers (events_of (map (λ x. x.state) es)) ≡ answers (events_of (map (λ x. x.state) (take i es))) ++ (answers e.state.events ++ answers rest) =
+    let whole : answers (events_of (map (λ x. x.state) es)) ≡ answers (events_of (map (λ x. x.state) (take i es)))
+    ++ (answers e.state.events ++ answers rest) =
     ap answers (events-split es i e at)
     ∙ filter_map-append _ (events_of (map (λ x. x.state) (take i es))) (e.state.events ++ rest)
     ∙ ap (λ ys. answers (events_of (map (λ x. x.state) (take i es))) ++ ys) (filter_map-append _ e.state.events rest) in
@@ -37,14 +38,15 @@ answers-next es i e at before none =
 
 -- the first value, where the record of this element has it and those before have none
 pub value-found : (es : List ElementView) (i : ℕ) (e : ElementView) (o : Option Value) → slice_get es i ≡ Some e
-    → answers (events_of (map (λ x. x.state) (take i es))) ≡ [] → o ≡ slice_get (answers e.state.events) 0 → is_some o ≡ true
-    → o ≡ first_value (map (λ x. x.state) es)
+    → answers (events_of (map (λ x. x.state) (take i es))) ≡ [] → o ≡ slice_get (answers e.state.events) 0
+    → is_some o ≡ true → o ≡ first_value (map (λ x. x.state) es)
 value-found es i e None at before is found = cc
 value-found es i e (Some v) at before is found = sym (answers-first es i e v at before (sym is))
 
 -- and none yet, where it has none
 pub value-missed : (es : List ElementView) (i : ℕ) (e : ElementView) (o : Option Value) → slice_get es i ≡ Some e
-    → answers (events_of (map (λ x. x.state) (take i es))) ≡ [] → o ≡ slice_get (answers e.state.events) 0 → is_some o ≡ false
-    → answers (events_of (map (λ x. x.state) (take (i + 1) es))) ≡ []
-value-missed es i e None at before is missed = answers-next es i e at before (none_first (answers e.state.events) (sym is))
+    → answers (events_of (map (λ x. x.state) (take i es))) ≡ [] → o ≡ slice_get (answers e.state.events) 0
+    → is_some o ≡ false → answers (events_of (map (λ x. x.state) (take (i + 1) es))) ≡ []
+value-missed es i e None at before is missed =
+    answers-next es i e at before (none_first (answers e.state.events) (sym is))
 value-missed es i e (Some v) at before is missed = cc

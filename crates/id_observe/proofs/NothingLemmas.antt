@@ -24,7 +24,8 @@ use Rattle.id_observe.specs.Paths.{structure_in}
 use Rattle.id_observe.proofs.SkippedLemmas.{made_by-none}
 
 -- an event whose instruction is no `alloc` shows no structure
-pub shape_of-none : (g : Parts) (path : Tag → Path) (e : EventView) (o : Option Op) → op_at g (tag_of e.message.payload).instr ≡ o → is_alloc o ≡ false →
+pub shape_of-none : (g : Parts) (path : Tag → Path) (e : EventView) (o : Option Op)
+    → op_at g (tag_of e.message.payload).instr ≡ o → is_alloc o ≡ false →
     shape_of g path e ≡ None
 shape_of-none g path e o is not =
     ap (option_map _) (made_by-none (op_at g (tag_of e.message.payload).instr) e.fired (ap is_alloc is ∙ not))
@@ -42,14 +43,16 @@ op_at-none g n none = from (slice_get g.instrs n) refl
     from : (o : Option Instr) → slice_get g.instrs n ≡ o → is_alloc (option_map (λ i. i.op) o) ≡ false
     from None at = refl
     from (Some i) at =
-        sym (ap (λ j. is_alloc (Some j.op)) (get_or_from_slice_get g.instrs n i i at)) ∙ none n i (slice_get_within g.instrs n i at)
+        sym (ap (λ j. is_alloc (Some j.op)) (get_or_from_slice_get g.instrs n i i at))
+        ∙ none n i (slice_get_within g.instrs n i at)
 
 -- so no event made a structure
 pub structures-none : (g : Parts) (es : List ElementView) → MakesNone g → structures_in g (map (λ e. e.state) es) ≡ []
 structures-none g es none =
     let path = path_in g (map (λ e. e.state) es) in
     filter_map-none (shape_of g path)
-    (λ e. shape_of-none g path e (op_at g (tag_of e.message.payload).instr) refl (op_at-none g (tag_of e.message.payload).instr none))
+    (λ e. shape_of-none g path e (op_at g (tag_of e.message.payload).instr) refl
+    (op_at-none g (tag_of e.message.payload).instr none))
     (events_of (map (λ e. e.state) es))
 
 -- ---- cells
@@ -67,7 +70,8 @@ cells_of-none = ap (flat_map filled_at) no_entries
 deferred_of-none : deferred_of empty ≡ []
 deferred_of-none = ap (flat_map readers_at) no_entries
 
-no_parts : {A : Type 0} (f : Cells → List A) → f empty ≡ [] → (es : List ElementView) → AllByRecursion (λ e. e.state.cells ≡ empty) es →
+no_parts : {A : Type 0} (f : Cells → List A) → f empty ≡ [] → (es : List ElementView)
+    → AllByRecursion (λ e. e.state.cells ≡ empty) es →
     flat_map (λ s. f s.cells) (map (λ e. e.state) es) ≡ []
 no_parts f none [] all = refl
 no_parts f none (e ∷ es) all =
@@ -77,10 +81,12 @@ no_parts f none (e ∷ es) all =
 pub cells-none : (g : Parts) (es : List ElementView) → HaveNoCells es → cells_in g (map (λ e. e.state) es) ≡ []
 cells-none g es all =
     let ss = map (λ e. e.state) es in
-    ap (filter_map (put_of g (path_in g ss) (structure_in g ss))) (no_parts cells_of cells_of-none es (recursion_from_All (λ e. e.state.cells ≡ empty) es all))
+    ap (filter_map (put_of g (path_in g ss) (structure_in g ss)))
+    (no_parts cells_of cells_of-none es (recursion_from_All (λ e. e.state.cells ≡ empty) es all))
 
 -- and no fetch that waits
 pub waiting-none : (g : Parts) (es : List ElementView) → HaveNoCells es → waiting_in g (map (λ e. e.state) es) ≡ []
 waiting-none g es all =
     let ss = map (λ e. e.state) es in
-    ap (map (ask_of g (path_in g ss) (structure_in g ss))) (no_parts deferred_of deferred_of-none es (recursion_from_All (λ e. e.state.cells ≡ empty) es all))
+    ap (map (ask_of g (path_in g ss) (structure_in g ss)))
+    (no_parts deferred_of deferred_of-none es (recursion_from_All (λ e. e.state.cells ≡ empty) es all))

@@ -30,10 +30,12 @@ IsRising-take g n s m old =
     let above : s.stamp < max s.stamp m.stamp + 1 = omega arith in
     record {
       sorted = sorted-push by_moment s.events (event_of g n s m) old.sorted
-          (each-weaker (λ e. e.stamp ≤ s.stamp) (λ e. by_moment e (event_of g n s m) ≡ Less) (λ e le. earlier_stamp e (event_of g n s m) (omega arith))
+          (each-weaker (λ e. e.stamp ≤ s.stamp) (λ e. by_moment e (event_of g n s m) ≡ Less)
+          (λ e le. earlier_stamp e (event_of g n s m) (omega arith))
           s.events old.within);
       within = each-append (λ (e : EventView). e.stamp ≤ next_stamp s m) s.events (event_of g n s m ∷ [])
-          (each-weaker (λ e. e.stamp ≤ s.stamp) (λ e. e.stamp ≤ next_stamp s m) (λ e le. omega arith) s.events old.within)
+          (each-weaker (λ e. e.stamp ≤ s.stamp) (λ e. e.stamp ≤ next_stamp s m) (λ e le. omega arith) s.events
+          old.within)
           (omega arith, tt);
       own = each-append (λ (e : EventView). e.element ≡ n) s.events (event_of g n s m ∷ []) old.own (refl, tt);
     }
@@ -50,24 +52,28 @@ pub number_below : (m n : ℕ) → nat_cmp m n ≡ Less → m < n
 number_below m n less = grind (arith, nat_tests)
 
 -- an event of an element of a lower number is below all of these
-below_elements : (x : EventView) (n : ℕ) (es : List ElementView) → x.element ≡ n → AllByRecursion (λ m. nat_cmp n m ≡ Less) (map (λ e. e.number) es) →
+below_elements : (x : EventView) (n : ℕ) (es : List ElementView) → x.element ≡ n
+    → AllByRecursion (λ m. nat_cmp n m ≡ Less) (map (λ e. e.number) es) →
     AllByRecursion Replays es → IsBelow (map (λ e. e.state.events) es) x
 below_elements x n [] own above replay = tt
 below_elements x n (e ∷ es) own above replay =
     let lower : n < e.number = number_below n e.number above.0 in (
-      each-weaker (λ y. y.element ≡ e.number) (λ y. x.element < y.element) (λ y is. omega arith) e.state.events (IsRising-from e replay.0).own,
+      each-weaker (λ y. y.element ≡ e.number) (λ y. x.element < y.element) (λ y is. omega arith) e.state.events
+          (IsRising-from e replay.0).own,
       below_elements x n es own above.1 replay.1,
     )
 
 -- the records of elements whose numbers rise
-pub AreRecords-from : (es : List ElementView) → IsStrictlySortedBy nat_cmp (map (λ e. e.number) es) → AllByRecursion Replays es →
+pub AreRecords-from : (es : List ElementView) → IsStrictlySortedBy nat_cmp (map (λ e. e.number) es)
+    → AllByRecursion Replays es →
     AreRecords (map (λ e. e.state.events) es)
 unfolding IsStrictlySortedBy
 AreRecords-from [] rise replay = tt
 AreRecords-from (e ∷ es) rise replay =
     let rising = IsRising-from e replay.0 in (
       rising.sorted,
-      each-weaker (λ x. x.element ≡ e.number) (IsBelow (map (λ d. d.state.events) es)) (λ x own. below_elements x e.number es own rise.0 replay.1)
+      each-weaker (λ x. x.element ≡ e.number) (IsBelow (map (λ d. d.state.events) es))
+          (λ x own. below_elements x e.number es own rise.0 replay.1)
           e.state.events rising.own,
       AreRecords-from es rise.1 replay.1,
     )

@@ -4,7 +4,8 @@ use Rattle.std.proofs.Common.{refl, ap}
 use Rattle.std.specs.Prelude.{◌==◌, if◌then◌else◌}
 use Rattle.std.proofs.lemmas.Bool.{ne_eqb}
 use Rattle.id_instr.specs.declared.instr.Op.{Op}
-use Rattle.id_instr.specs.declared.instr.Op.TheVariants.{Const, Unary, Binary, Merge, Switch, Back, Enter, Send, Next, Reset, Alloc, Address, Fetch, Store}
+use Rattle.id_instr.specs.declared.instr.Op.TheVariants.{Const, Unary, Binary, Merge, Switch, Back, Enter, Send, Next}
+use Rattle.id_instr.specs.declared.instr.Op.TheVariants.{Reset, Alloc, Address, Fetch, Store}
 use Rattle.id_tag.specs.declared.Message.{Message}
 use Rattle.id_tag.specs.declared.Payload.{Payload}
 use Rattle.id_tag.specs.declared.Payload.TheVariants.{Token, Read, Write}
@@ -17,7 +18,9 @@ use Rattle.id_observe.specs.Paths.{brought, main_tag}
 -- a token for another instruction than the first brings nothing to the answer
 pub brought-elsewhere : (x : Payload) → (tag_of x).instr ≢ 0 → brought x ≡ None
 brought-elsewhere (Token t p v) not =
-    ap (λ b. if b then Some v else None) (never (same_context t.context (main_tag 0).context) (t.iteration == 0) (t.instr == 0) (ne_eqb t.instr 0 not))
+    ap (λ b. if b then Some v
+    else None)
+    (never (same_context t.context (main_tag 0).context) (t.iteration == 0) (t.instr == 0) (ne_eqb t.instr 0 not))
   where
     never : (a b c : Bool) → c ≡ false → (a && (b && c)) ≡ false
     never true true c is = is

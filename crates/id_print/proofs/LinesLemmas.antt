@@ -19,7 +19,8 @@ fact_line text (Has p e v) =
     is_line-behind (point_text text p e) (equal_text text v ++ codes "\n") (point_within text p e)
     (is_line-behind (equal_text text v) (codes "\n") (value_within text v) refl)
 fact_line text (fact.Shape s) =
-    is_line-behind (site_text text s.name) (32 ∷ (signed_decimal s.low ++ (codes ".." ++ (signed_decimal s.high ++ codes "\n"))))
+    is_line-behind (site_text text s.name)
+    (32 ∷ (signed_decimal s.low ++ (codes ".." ++ (signed_decimal s.high ++ codes "\n"))))
     (point_within text s.name.path s.name.place)
     (is_line-behind (signed_decimal s.low) (codes ".." ++ (signed_decimal s.high ++ codes "\n")) (signed_within s.low)
     (is_line-behind (signed_decimal s.high) (codes "\n") (signed_within s.high) refl))
@@ -33,11 +34,13 @@ fact_line text (fact.Ask a) =
     (is_line-behind (cell_text text a.name a.index) (codes "\n") (cell_within text a.name a.index) refl)
 
 -- so the bytes of facts tell the text of each
-pub one_by_one : (text : List ℕ) (fs gs : List Fact) → facts_text text fs ≡ facts_text text gs → map (fact_text text) fs ≡ map (fact_text text) gs
+pub one_by_one : (text : List ℕ) (fs gs : List Fact) → facts_text text fs ≡ facts_text text gs
+    → map (fact_text text) fs ≡ map (fact_text text) gs
 one_by_one text fs gs e = same_lines (fact_text text) (fact_line text) fs gs e
 
 -- what is among the one has its like among the other
-pub like_among : {A : Type 0} (f : A → List ℕ) (xs ys : List A) (x : A) → map f xs ≡ map f ys → Among x xs → (y : A) × Among y ys × (f y ≡ f x)
+pub like_among : {A : Type 0} (f : A → List ℕ) (xs ys : List A) (x : A) → map f xs ≡ map f ys → Among x xs
+    → (y : A) × Among y ys × (f y ≡ f x)
 like_among f [] ys x e h = absurd h
 like_among f (z ∷ xs) [] x e h = absurd cc
 like_among f (z ∷ xs) (y ∷ ys) x e (inl h) =

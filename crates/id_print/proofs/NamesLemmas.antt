@@ -19,9 +19,11 @@ use Rattle.id_value.specs.List.{Among, AllDiffer}
 use Rattle.id_source.specs.Orders.{NamesRise, Rises, SiteBefore, step_cmp}
 use Rattle.id_print.specs.declared.helds.Held.{Held}
 use Rattle.id_print.specs.declared.helds.Held.TheVariants.{Array, Cell}
-use Rattle.id_print.specs.Names.{IsOrderOf, AreApartBy, NameBefore, HeldBefore, WaitBefore, LineBefore, AtOnePoint, OfOneThing, OfOneFetch}
+use Rattle.id_print.specs.Names.{IsOrderOf, AreApartBy, NameBefore, HeldBefore, WaitBefore, LineBefore, AtOnePoint}
+use Rattle.id_print.specs.Names.{OfOneThing, OfOneFetch}
 use Rattle.id_print.specs.Names.{site_cmp, name_cmp, line_cmp, held_cmp, ask_cmp, held_name}
-use Rattle.id_source.proofs.PathOrderLemmas.{less_number, less_steps, number_less, same_number, same_steps, step_total, steps_less, then_equal, then_less}
+use Rattle.id_source.proofs.PathOrderLemmas.{less_number, less_steps, number_less, same_number, same_steps, step_total}
+use Rattle.id_source.proofs.PathOrderLemmas.{steps_less, then_equal, then_less}
 
 -- the comparison is less exactly where the first comes before the second, and equal only where one is as the other
 pub record Tells {A : Type 0} (c : A → A → Ordering) (B C : A → A → Type 0) : Type 0 where
@@ -38,14 +40,17 @@ first_lt c x y = is_lt (c x y)
 abbrev pub both_tie : {A : Type 0} → (A → A → Ordering) → A → A → Bool
 both_tie c x y = is_eq (c x y)
 
-less_lt : {A : Type 0} (c : A → A → Ordering) (B C : A → A → Type 0) → Tells c B C → (x y : A) → first_lt c x y ≡ false → B x y → ⊥
+less_lt : {A : Type 0} (c : A → A → Ordering) (B C : A → A → Type 0) → Tells c B C → (x y : A) → first_lt c x y ≡ false
+    → B x y → ⊥
 less_lt c B C t x y e h = false≢true (sym e ∙ ap is_lt (t.less x y h))
 
 -- what a sort by that test leaves is in order
-pub in_order-from_sort : {A : Type 0} (c : A → A → Ordering) (B C : A → A → Type 0) → Tells c B C → (xs : List A) → IsSortedBy (first_lt c) xs →
+pub in_order-from_sort : {A : Type 0} (c : A → A → Ordering) (B C : A → A → Type 0) → Tells c B C → (xs : List A)
+    → IsSortedBy (first_lt c) xs →
     AllPairs (λ x y. ¬ B y x) xs
 in_order-from_sort c B C t xs up i j d below within =
-    less_lt c B C t (get_or xs j d) (get_or xs i d) (sorted_far (first_lt c) (ranks_by t.total (λ x. x)) xs up i j d (omega arith) within)
+    less_lt c B C t (get_or xs j d) (get_or xs i d)
+    (sorted_far (first_lt c) (ranks_by t.total (λ x. x)) xs up i j d (omega arith) within)
 
 is_eq-reverse : (o : Ordering) → is_eq (ordering_reverse o) ≡ is_eq o
 is_eq-reverse Less = refl
@@ -56,8 +61,8 @@ both_tie-flips : {A : Type 0} (c : A → A → Ordering) → IsTotalOrder c → 
 both_tie-flips c t x y = ap is_eq (t.antisymm x y) ∙ is_eq-reverse (c y x)
 
 -- things at a tie are one, and this one is not among the others
-no_tie : {A : Type 0} (c : A → A → Ordering) (B C : A → A → Type 0) → Tells c B C → (x : A) (xs : List A) → (Among x xs → ⊥)
-    → ((y : A) → Among y xs → C x y → x ≡ y) → (y : A) → Among y xs → both_tie c x y ≡ false
+no_tie : {A : Type 0} (c : A → A → Ordering) (B C : A → A → Type 0) → Tells c B C → (x : A) (xs : List A)
+    → (Among x xs → ⊥) → ((y : A) → Among y xs → C x y → x ≡ y) → (y : A) → Among y xs → both_tie c x y ≡ false
 no_tie c B C t x xs alone one y among = at (c x y) refl
   where
     at : (o : Ordering) → c x y ≡ o → is_eq o ≡ false
@@ -74,25 +79,32 @@ ties_differ : {A : Type 0} (c : A → A → Ordering) (B C : A → A → Type 0)
 unfolding IsDistinct
 ties_differ c B C t [] differ one = tt
 ties_differ c B C t (x ∷ xs) differ one = (
-  each_among (λ y. both_tie c x y ≡ false) xs (no_tie c B C t x xs differ.0 (λ y among. one x y (inl refl) (inr among))),
+  each_among (λ y. both_tie c x y ≡ false) xs
+      (no_tie c B C t x xs differ.0 (λ y among. one x y (inl refl) (inr among))),
   ties_differ c B C t xs differ.1 (λ y z a b. one y z (inr a) (inr b)),
 )
 
 -- things in order of which none tie rise
-rise : {A : Type 0} (c : A → A → Ordering) (B C : A → A → Type 0) → Tells c B C → (xs : List A) → AllPairs (λ x y. ¬ B y x) xs → IsDistinct (both_tie c) xs →
+rise : {A : Type 0} (c : A → A → Ordering) (B C : A → A → Type 0) → Tells c B C → (xs : List A)
+    → AllPairs (λ x y. ¬ B y x) xs → IsDistinct (both_tie c) xs →
     Rises B xs
 unfolding IsDistinct
 rise c B C t [] up apart = tt
 rise c B C t (x ∷ []) up apart = tt
-rise c B C t (x ∷ y ∷ xs) up apart = (at (c x y) refl, rise c B C t (y ∷ xs) (λ i j d below within. up (suc i) (suc j) d (omega arith) (omega arith)) apart.1)
+rise c B C t (x ∷ y ∷ xs) up apart = (
+  at (c x y) refl,
+  rise c B C t (y ∷ xs) (λ i j d below within. up (suc i) (suc j) d (omega arith) (omega arith)) apart.1,
+)
   where
     at : (o : Ordering) → c x y ≡ o → B x y
     at Less e = t.before x y e
     at Equal e = absurd (false≢true (sym apart.0.0 ∙ ap is_eq e))
-    at Greater e = absurd (up 0 1 x (omega arith) (omega arith) (t.before y x (t.total.antisymm y x ∙ ap ordering_reverse e)))
+    at Greater e =
+        absurd (up 0 1 x (omega arith) (omega arith) (t.before y x (t.total.antisymm y x ∙ ap ordering_reverse e)))
 
 -- things that are apart rise where they are sorted
-pub Rises-sorted : {A : Type 0} (c : A → A → Ordering) (B C : A → A → Type 0) → Tells c B C → (sorted xs : List A) → IsOrderOf B sorted xs → AreApartBy C xs →
+pub Rises-sorted : {A : Type 0} (c : A → A → Ordering) (B C : A → A → Type 0) → Tells c B C → (sorted xs : List A)
+    → IsOrderOf B sorted xs → AreApartBy C xs →
     Rises B sorted
 Rises-sorted c B C t sorted xs up apart =
     rise c B C t sorted up.in_order (IsDistinct-IsPermutation (both_tie c) (both_tie-flips c t.total) xs sorted up.same
@@ -122,7 +134,8 @@ site_less s t (inr h) =
 less_site : (s t : Site) → site_cmp s t ≡ Less → SiteBefore s t
 less_site s t e = at (then_less (slice_cmp step_cmp s.path.steps t.path.steps) (nat_cmp s.place t.place) e)
   where
-    at : (slice_cmp step_cmp s.path.steps t.path.steps ≡ Less) ⊎ ((slice_cmp step_cmp s.path.steps t.path.steps ≡ Equal) × (nat_cmp s.place t.place ≡ Less)) →
+    at : (slice_cmp step_cmp s.path.steps t.path.steps ≡ Less)
+        ⊎ ((slice_cmp step_cmp s.path.steps t.path.steps ≡ Equal) × (nat_cmp s.place t.place ≡ Less)) →
         SiteBefore s t
     at (inl h) = inl (less_steps s.path.steps t.path.steps h)
     at (inr h) = inr (same_path s.path t.path h.0, less_number s.place t.place h.1)
@@ -202,7 +215,10 @@ integer_less m n h = at (int_cmp m n) refl
   where
     at : (o : Ordering) → int_cmp m n ≡ o → int_cmp m n ≡ Less
     at Less e = e
-    at Equal e = let same = same_integer m n e in absurd (no_circle m n h (subst (λ (z : ℤ). z <ℤ m) same (subst (λ (z : ℤ). m <ℤ z) (sym same) h)))
+    at Equal e =
+        let same =
+        same_integer m n e in
+        absurd (no_circle m n h (subst (λ (z : ℤ). z <ℤ m) same (subst (λ (z : ℤ). m <ℤ z) (sym same) h)))
     at Greater e = let back : n <ℤ m = int_ranked m n Greater (sym e) in absurd (no_circle m n h back)
 
 line_less : (h k : Held) → LineBefore h k → line_cmp h k ≡ Less
@@ -223,12 +239,14 @@ held_total = then_total (on_total held_name site_total) line_total
 held_less : (h k : Held) → HeldBefore h k → held_cmp h k ≡ Less
 held_less h k (inl b) = ap (λ o. ordering_then o (line_cmp h k)) (site_less (held_name h) (held_name k) b)
 held_less h k (inr b) =
-    ap (λ o. ordering_then o (line_cmp h k)) (ap (site_cmp (held_name h)) (sym b.0) ∙ tied_itself site_total (held_name h)) ∙ line_less h k b.1
+    ap (λ o. ordering_then o (line_cmp h k)) (ap (site_cmp (held_name h)) (sym b.0)
+    ∙ tied_itself site_total (held_name h)) ∙ line_less h k b.1
 
 less_held : (h k : Held) → held_cmp h k ≡ Less → HeldBefore h k
 less_held h k e = at (then_less (site_cmp (held_name h) (held_name k)) (line_cmp h k) e)
   where
-    at : (site_cmp (held_name h) (held_name k) ≡ Less) ⊎ ((site_cmp (held_name h) (held_name k) ≡ Equal) × (line_cmp h k ≡ Less)) → HeldBefore h k
+    at : (site_cmp (held_name h) (held_name k) ≡ Less)
+        ⊎ ((site_cmp (held_name h) (held_name k) ≡ Equal) × (line_cmp h k ≡ Less)) → HeldBefore h k
     at (inl b) = inl (less_site (held_name h) (held_name k) b)
     at (inr b) = inr (same_site (held_name h) (held_name k) b.0, less_line h k b.1)
 
@@ -240,7 +258,9 @@ lines_tied (Cell p) (Cell q) n e = (n, same_integer p.index q.index e)
 
 held_tied : (h k : Held) → held_cmp h k ≡ Equal → OfOneThing h k
 held_tied h k e =
-    let both = then_equal (site_cmp (held_name h) (held_name k)) (line_cmp h k) e in lines_tied h k (same_site (held_name h) (held_name k) both.0) both.1
+    let both =
+    then_equal (site_cmp (held_name h) (held_name k)) (line_cmp h k) e in
+    lines_tied h k (same_site (held_name h) (held_name k) both.0) both.1
 
 pub helds_told : Tells held_cmp HeldBefore OfOneThing
 helds_told = record { total = held_total; less = held_less; before = less_held; tied = held_tied }

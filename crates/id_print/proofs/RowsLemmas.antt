@@ -17,15 +17,18 @@ abbrev pub row_text : PenView → RowFact → List ℕ
 row_text v f = fact_text v.text (fact_in v f)
 
 -- the lines of all of them
-pub rows-text : (v : PenView) (fs : List RowFact) → flat_map (row_text v) fs ≡ facts_text v.text (facts_in v.checked v.facts fs)
+pub rows-text : (v : PenView) (fs : List RowFact)
+    → flat_map (row_text v) fs ≡ facts_text v.text (facts_in v.checked v.facts fs)
 rows-text v [] = refl
 rows-text v (f ∷ fs) = ap (λ t. row_text v f ++ t) (rows-text v fs)
 
 -- and of as many as there are
-pub rows-all : (v : PenView) (fs : List RowFact) (i : ℕ) → length fs ≤ i → flat_map (row_text v) (take i fs) ≡ facts_text v.text (facts_in v.checked v.facts fs)
+pub rows-all : (v : PenView) (fs : List RowFact) (i : ℕ) → length fs ≤ i
+    → flat_map (row_text v) (take i fs) ≡ facts_text v.text (facts_in v.checked v.facts fs)
 rows-all v fs i l =
     let none : drop i fs ≡ [] = drop_of_length-le fs l in
-    let all : take i fs ≡ fs = sym (append-nil (take i fs)) ∙ ap (λ d. take i fs ++ d) (sym none) ∙ take-append-drop i fs in
+    let all : take i fs ≡ fs =
+    sym (append-nil (take i fs)) ∙ ap (λ d. take i fs ++ d) (sym none) ∙ take-append-drop i fs in
     ap (flat_map (row_text v)) all ∙ rows-text v fs
 
 -- the steps that are written are those of the path

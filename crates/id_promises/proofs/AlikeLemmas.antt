@@ -31,11 +31,13 @@ use Rattle.id_promises.proofs.RisingLemmas.{IsStrict-told, one_list}
 
 module _ {A : Type 0} (c : A → A → Ordering) (B C : A → A → Type 0) (t : Tells c B C) where
   -- two lists that rise by an order that a comparison tells and have the same members are one
-  pub rising_same : (xs ys : List A) → Rises B xs → Rises B ys → ((x : A) → Among x xs → Among x ys) → ((x : A) → Among x ys → Among x xs) → xs ≡ ys
+  pub rising_same : (xs ys : List A) → Rises B xs → Rises B ys → ((x : A) → Among x xs → Among x ys)
+      → ((x : A) → Among x ys → Among x xs) → xs ≡ ys
   rising_same = one_list B (IsStrict-told c B C t)
 
   -- what is put in order from the same things, which are apart, is one list
-  pub order_same : (xs ys us vs : List A) → IsOrderOf B xs us → IsOrderOf B ys vs → AreApartBy C us → AreApartBy C vs → IsPermutation us vs → xs ≡ ys
+  pub order_same : (xs ys us vs : List A) → IsOrderOf B xs us → IsOrderOf B ys vs → AreApartBy C us → AreApartBy C vs
+      → IsPermutation us vs → xs ≡ ys
   order_same xs ys us vs h k apart split moved =
       rising_same xs ys (Rises-sorted c B C t xs us h apart) (Rises-sorted c B C t ys vs k split)
       (λ x l. among_permuted vs ys x k.same (among_permuted us vs x moved (among_sorted us xs x h.same l)))
@@ -53,14 +55,25 @@ pub record IsQuietly (g : Parts) (w : World) (text : List ℕ) (b : Bool) (bytes
   pub is : bytes ≡ quiet_text text (shown.answer g w) (asked b names) helds waits
 
 module _ (g : Parts) (count steps : ℕ) (w : World) (text : List ℕ) (b : Bool) where
-  pub quietly : (status : ℕ) (bytes : List ℕ) → status ≡ 0 → Ends g count steps w text b status bytes → IsQuietly g w text b bytes
+  pub quietly : (status : ℕ) (bytes : List ℕ) → status ≡ 0 → Ends g count steps w text b status bytes
+      → IsQuietly g w text b bytes
   quietly _ _ e (quiet ns hs waits still sorted held waiting) =
-      record { names = ns; helds = hs; waits = waits; still = still; sorted = sorted; held = held; waiting = waiting; is = refl }
+      record {
+        names = ns;
+        helds = hs;
+        waits = waits;
+        still = still;
+        sorted = sorted;
+        held = held;
+        waiting = waiting;
+        is = refl;
+      }
   quietly _ _ e (fault f first) = absurd (omega (arith, e))
   quietly _ _ e (stopped ns hs none left all sorted held) = absurd (omega (arith, e))
 
   -- a run that ends at a fault shows it
-  pub at_fault : (status : ℕ) (bytes : List ℕ) → status ≡ 1 → Ends g count steps w text b status bytes → (f : SourceFault) × IsFirstFault g w.elements f
+  pub at_fault : (status : ℕ) (bytes : List ℕ) → status ≡ 1 → Ends g count steps w text b status bytes
+      → (f : SourceFault) × IsFirstFault g w.elements f
   at_fault _ _ e (quiet ns hs waits still sorted held waiting) = absurd (omega (arith, e))
   at_fault _ _ e (fault f first) = (f, first)
   at_fault _ _ e (stopped ns hs none left all sorted held) = absurd (omega (arith, e))
@@ -77,7 +90,8 @@ asked_same : (b : Bool) (ns ms : List NameValue) → (IsTrue b → ns ≡ ms) �
 asked_same true ns ms h = h refl
 asked_same false ns ms h = refl
 
-module _ (S : Source) (inputs : AreInputs S.checked S.inputs) (sound : Soundness) (d : IsDeterminate S) (text : List ℕ) (b : Bool) where
+module _ (S : Source) (inputs : AreInputs S.checked S.inputs) (sound : Soundness) (d : IsDeterminate S) (text : List ℕ)
+    (b : Bool) where
   sound_end : (r : RunOf S) → IsSound S r.graph r.schemas.number (end_of S r)
   sound_end r = sound S r.graph r.count r.positions inputs r.schemas
 
@@ -89,17 +103,22 @@ module _ (S : Source) (inputs : AreInputs S.checked S.inputs) (sound : Soundness
       same = d.same r q h.still k.still
 
       same_names : asked b h.names ≡ asked b k.names
-      same_names = asked_same b h.names k.names (λ yes. order_same _ _ _ names_told h.names k.names _ _ (h.sorted yes) (k.sorted yes)
-          (AreApart-sound S r.graph r.schemas.number (end_of S r) (sound_end r)) (AreApart-sound S q.graph q.schemas.number (end_of S q) (sound_end q))
+      same_names =
+          asked_same b h.names k.names
+          (λ yes. order_same _ _ _ names_told h.names k.names _ _ (h.sorted yes) (k.sorted yes)
+          (AreApart-sound S r.graph r.schemas.number (end_of S r) (sound_end r))
+          (AreApart-sound S q.graph q.schemas.number (end_of S q) (sound_end q))
           same.names)
 
       same_helds : h.helds ≡ k.helds
       same_helds = order_same _ _ _ helds_told h.helds k.helds _ _ h.held k.held
           (AreApartBy-held S r.graph r.schemas.number (end_of S r) (sound_end r))
           (AreApartBy-held S q.graph q.schemas.number (end_of S q) (sound_end q))
-          (IsPermutation-append (map Array (shown.structures r.graph (end_of S r))) (map Array (shown.structures q.graph (end_of S q)))
+          (IsPermutation-append (map Array (shown.structures r.graph (end_of S r)))
+          (map Array (shown.structures q.graph (end_of S q)))
           (map Cell (shown.cell_values r.graph (end_of S r))) (map Cell (shown.cell_values q.graph (end_of S q)))
-          (IsPermutation-map Array _ _ same.structures) (IsPermutation-map Cell _ _ (IsPermutation-map shown.cell_value _ _ same.cells)))
+          (IsPermutation-map Array _ _ same.structures)
+          (IsPermutation-map Cell _ _ (IsPermutation-map shown.cell_value _ _ same.cells)))
 
       same_waits : h.waits ≡ k.waits
       same_waits = order_same _ _ _ asks_told h.waits k.waits _ _ h.waiting k.waiting
@@ -119,7 +138,8 @@ module _ (S : Source) (inputs : AreInputs S.checked S.inputs) (sound : Soundness
   printed_alike : ArePrintedAlike S text b
   printed_alike = record {
     same = λ r q m n xs ys h k. same_printed r q xs ys
-        (quietly r.graph r.count m (end_of S r) text b 0 xs refl h) (quietly q.graph q.count n (end_of S q) text b 0 ys refl k);
+        (quietly r.graph r.count m (end_of S r) text b 0 xs refl h)
+        (quietly q.graph q.count n (end_of S q) text b 0 ys refl k);
     no_fault = λ r q m n xs ys h k.
         let at = at_fault q.graph q.count n (end_of S q) text b 1 ys refl k in
         not_at_fault r q xs at.0 (quietly r.graph r.count m (end_of S r) text b 0 xs refl h) at.1;

@@ -1,6 +1,7 @@
 -- Lemmas on specs/AtOnce.antt: the numbers of the instructions that the rows of a program make are those of its graph,
 -- each once, so that what is summed over the rows is what is summed over the graph.
-use Rattle.std.proofs.Common.{◌≡◌, inl, inr, ℕ, zero, suc, ◌<◌, ◌≤◌, List, [], ◌∷◌, ◌++◌, length, map, Option, Some, refl, sym, ap, subst, ◌∙◌, arith}
+use Rattle.std.proofs.Common.{◌≡◌, inl, inr, ℕ, zero, suc, ◌<◌, ◌≤◌, List, [], ◌∷◌, ◌++◌, length, map, Option, Some}
+use Rattle.std.proofs.Common.{refl, sym, ap, subst, ◌∙◌, arith}
 use Rattle.std.specs.Prelude.{slice_get, sum_by}
 use Rattle.std.specs.Option.{option_map_or}
 use Rattle.std.proofs.lemmas.List.Sums.{sum_by-append, sum_by-cons}
@@ -30,12 +31,23 @@ split x (y ∷ ys) (inl e) = ([], ys, ap (λ z. z ∷ ys) (sym e))
 split x (y ∷ ys) (inr h) = let r = split x ys h in (y ∷ r.0, r.1, ap (λ zs. y ∷ zs) r.2)
 
 -- where all differ, their sum is no more than that of a list that has each of them
-sum_few : {A : Type 0} (f : A → ℕ) (xs ys : List A) → AllDiffer xs → ((x : A) → Among x xs → Among x ys) → sum_by f xs ≤ sum_by f ys
+sum_few : {A : Type 0} (f : A → ℕ) (xs ys : List A) → AllDiffer xs → ((x : A) → Among x xs → Among x ys)
+    → sum_by f xs ≤ sum_by f ys
 sum_few f [] ys d each = omega arith
 sum_few {A = A} f (x ∷ xs) ys d each =
     let s = split x ys (each x (inl refl)) in
-    let rest = sum_few f xs (s.0 ++ s.1) d.1 (λ y h. keep s.0 s.1 y h (subst (λ (zs : List A). Among y zs) s.2 (each y (inr h)))) in
-    omega (arith, rest, sum_by-cons f x xs, ap (sum_by f) s.2, sum_by-append f s.0 (x ∷ s.1), sum_by-cons f x s.1, sum_by-append f s.0 s.1)
+    let rest =
+    sum_few f xs (s.0 ++ s.1) d.1
+    (λ y h. keep s.0 s.1 y h (subst (λ (zs : List A). Among y zs) s.2 (each y (inr h)))) in
+    omega (
+      arith,
+      rest,
+      sum_by-cons f x xs,
+      ap (sum_by f) s.2,
+      sum_by-append f s.0 (x ∷ s.1),
+      sum_by-cons f x s.1,
+      sum_by-append f s.0 s.1,
+    )
   where
     keep : (front rest : List A) (y : A) → Among y xs → Among y (front ++ x ∷ rest) → Among y (front ++ rest)
     keep front rest y h k = elim (Among-either y front (x ∷ rest) k) [
@@ -52,15 +64,24 @@ numbers (x ∷ xs) = 0 ∷ map suc (numbers xs)
 
 sum_by_map : {A B : Type 0} (f : B → ℕ) (h : A → B) (xs : List A) → sum_by f (map h xs) ≡ sum_by (λ x. f (h x)) xs
 sum_by_map f h [] = refl
-sum_by_map f h (x ∷ xs) = omega (arith, sum_by-cons f (h x) (map h xs), sum_by-cons (λ z. f (h z)) x xs, sum_by_map f h xs)
+sum_by_map f h (x ∷ xs) =
+    omega (arith, sum_by-cons f (h x) (map h xs), sum_by-cons (λ z. f (h z)) x xs, sum_by_map f h xs)
 
 -- what is said of each item is summed over the items
-sum_numbers : {A : Type 0} (f : ℕ → ℕ) (w : A → ℕ) (xs : List A) → ((k : ℕ) (x : A) → slice_get xs k ≡ Some x → f k ≡ w x) → sum_by f (numbers xs) ≡ sum_by w xs
+sum_numbers : {A : Type 0} (f : ℕ → ℕ) (w : A → ℕ) (xs : List A)
+    → ((k : ℕ) (x : A) → slice_get xs k ≡ Some x → f k ≡ w x) → sum_by f (numbers xs) ≡ sum_by w xs
 unfolding numbers
 sum_numbers f w [] each = refl
 sum_numbers f w (x ∷ xs) each =
     let rest = sum_numbers (λ k. f (suc k)) w xs (λ k y e. each (suc k) y e) in
-    omega (arith, sum_by-cons f 0 (map suc (numbers xs)), sum_by_map f suc (numbers xs), rest, sum_by-cons w x xs, each 0 x refl)
+    omega (
+      arith,
+      sum_by-cons f 0 (map suc (numbers xs)),
+      sum_by_map f suc (numbers xs),
+      rest,
+      sum_by-cons w x xs,
+      each 0 x refl,
+    )
 
 numbers_all : {A : Type 0} (xs : List A) (k : ℕ) → k < length xs → Among k (numbers xs)
 unfolding numbers
@@ -78,7 +99,8 @@ numbers_only {A = A} (x ∷ xs) k (inr h) =
     (z.0, subst (λ j. slice_get (x ∷ xs) j ≡ Some z.0) (sym y.2) z.1)
 
 -- images differ where no two things have one
-pub differ_map : {A B : Type 0} (f : A → B) (xs : List A) → AllDiffer xs → ((x y : A) → Among x xs → Among y xs → f x ≡ f y → x ≡ y) → AllDiffer (map f xs)
+pub differ_map : {A B : Type 0} (f : A → B) (xs : List A) → AllDiffer xs
+    → ((x y : A) → Among x xs → Among y xs → f x ≡ f y → x ≡ y) → AllDiffer (map f xs)
 differ_map f [] d one = tt
 differ_map f (x ∷ xs) d one = (
   λ h.
@@ -152,14 +174,16 @@ module _ (P : Checked) (g : Parts) (number : ℕ → ℕ → ℕ) (ok : Numbered
     | inl less ↦ Among-left (number j k) (of_rows n) (of_row n) (of_rows_all n j k q less e)
     | inr more ↦
         let same : j ≡ n = omega (arith, l, more) in
-        let here : Among (number j k) (of_row j) = Among-map (number j) k (numbers (made P j)) (numbers_all (made P j) k (slice_get_within (made P j) k q e)) in
+        let here : Among (number j k) (of_row j) =
+        Among-map (number j) k (numbers (made P j)) (numbers_all (made P j) k (slice_get_within (made P j) k q e)) in
         Among-right (number j k) (of_rows n) (of_row n) (subst (λ i. Among (number j k) (of_row i)) same here)
   ]
 
   -- two parts with one number are one
-  one_part : (n k j i : ℕ) (q r : Piece) → n < length (rows P) → j < length (rows P) → slice_get (made P n) k ≡ Some q → slice_get (made P j) i ≡ Some r
-      → number n k ≡ number j i → (n ≡ j) × (k ≡ i)
-  one_part n k j i q r l m a b e = ok.apart n k j i q.form r.form q.place r.place (record { within = l; at = a }) (record { within = m; at = b }) e
+  one_part : (n k j i : ℕ) (q r : Piece) → n < length (rows P) → j < length (rows P) → slice_get (made P n) k ≡ Some q
+      → slice_get (made P j) i ≡ Some r → number n k ≡ number j i → (n ≡ j) × (k ≡ i)
+  one_part n k j i q r l m a b e =
+      ok.apart n k j i q.form r.form q.place r.place (record { within = l; at = a }) (record { within = m; at = b }) e
 
   of_row_differ : (n : ℕ) → n < length (rows P) → AllDiffer (of_row n)
   unfolding of_row
@@ -179,7 +203,9 @@ module _ (P : Checked) (g : Parts) (number : ℕ → ℕ → ℕ) (ok : Numbered
       let x = of_rows_only n m a in
       let y = of_row_only n m b in
       let z = x.2 in
-      let one = one_part x.0 z.part n y.part z.made_piece y.made_piece (omega (arith, x.1, l)) (omega (arith, l)) z.at y.at (sym z.is ∙ y.is) in
+      let one =
+      one_part x.0 z.part n y.part z.made_piece y.made_piece (omega (arith, x.1, l)) (omega (arith, l)) z.at y.at
+      (sym z.is ∙ y.is) in
       omega (arith, x.1, one.0))
 
   -- the messages of a row's instructions
@@ -196,7 +222,12 @@ module _ (P : Checked) (g : Parts) (number : ℕ → ℕ → ℕ) (ok : Numbered
   unfolding of_rows
   sum_rows zero l = refl
   sum_rows (suc n) l =
-      omega (arith, sum_by-append weight_at (of_rows n) (of_row n), sum_rows n (omega (arith, l)), sum_row n (omega (arith, l)))
+      omega (
+        arith,
+        sum_by-append weight_at (of_rows n) (of_row n),
+        sum_rows n (omega (arith, l)),
+        sum_row n (omega (arith, l)),
+      )
 
   sum_graph : sum_by weight_at (numbers g.instrs) ≡ messages_at_once g
   sum_graph = sum_numbers weight_at weight g.instrs (λ k i e. weight_is k i e)
@@ -214,7 +245,8 @@ module _ (P : Checked) (g : Parts) (number : ℕ → ℕ → ℕ) (ok : Numbered
   in_rows m h =
       let i = numbers_only g.instrs m h in
       let x = ok.only m i.0 i.1 in
-      subst (λ j. Among j (of_rows (length (rows P)))) x.is (of_rows_all (length (rows P)) x.row x.part (piece x.form x.place) (x.makes).within (x.makes).at)
+      subst (λ j. Among j (of_rows (length (rows P)))) x.is
+      (of_rows_all (length (rows P)) x.row x.part (piece x.form x.place) (x.makes).within (x.makes).at)
 
   pub one_number : messages_at_once g ≡ messages_of_program P
   one_number =

@@ -1,5 +1,6 @@
 -- The loops of a text's program stand where the text has a `{`.
-use Rattle.std.proofs.Common.{◌≡◌, ℕ, zero, suc, ◌+◌, true, false, List, [], ◌∷◌, ◌++◌, drop, Option, Some, refl, ap, subst, ◌∙◌, arith}
+use Rattle.std.proofs.Common.{◌≡◌, ℕ, zero, suc, ◌+◌, true, false, List, [], ◌∷◌, ◌++◌, drop, Option, Some, refl, ap}
+use Rattle.std.proofs.Common.{subst, ◌∙◌, arith}
 use Rattle.std.specs.Prelude.{slice_get}
 use Rattle.std.specs.Option.{option_map_or}
 use Rattle.std.specs.Prelude.{◌==◌}
@@ -12,14 +13,17 @@ use Rattle.id_text.specs.declared.token.Symbol.{Symbol}
 use Rattle.id_text.specs.declared.token.Symbol.TheVariants.{Becomes, LeftBrace}
 use Rattle.id_text.specs.Bytes.{sign_of}
 use Rattle.id_text.specs.Lexes.{Begins, Ending, Lexes}
-use Rattle.id_text.specs.Lexes.Begins.{blank, comment, word as keyword, name as identifier, number as digits, sign as symbol}
+use Rattle.id_text.specs.Lexes.Begins.{blank, comment, word as keyword, name as identifier, number as digits}
+use Rattle.id_text.specs.Lexes.Begins.{sign as symbol}
 use Rattle.id_text.specs.Lexes.Lexes.{end, gap, token, too_large, bad_byte}
 use Rattle.id_text.specs.Lexes.Ending.{Whole}
 use Rattle.id_grammar.specs.Tree as tree
-use Rattle.id_grammar.specs.Tree.{Tree, literal, unary, binary, conditional, call, block, loop, for_loop, array, binding, fetch, next, store, param, define, none, more}
+use Rattle.id_grammar.specs.Tree.{Tree, literal, unary, binary, conditional, call, block, loop, for_loop, array}
+use Rattle.id_grammar.specs.Tree.{binding, fetch, next, store, param, define, none, more}
 use Rattle.id_grammar.specs.Grammar.{MoreParameters, body_of, sign, sized, raised, measured, lifted, unlifted, deepened}
 use Rattle.id_grammar.specs.Grammar.{Phrase, Rest, done, word, either, name, of_kind, part, with_statement, with_tail}
-use Rattle.id_grammar.specs.Grammar.{loop_with_tail, for_with_tail, Opens, definition, no_parameters, first_parameter, last_parameter}
+use Rattle.id_grammar.specs.Grammar.{loop_with_tail, for_with_tail, Opens, definition, no_parameters, first_parameter}
+use Rattle.id_grammar.specs.Grammar.{last_parameter}
 use Rattle.id_grammar.specs.Grammar.{next_parameter, by_conditional, denied, negated, number, by_true, by_false, parens}
 use Rattle.id_grammar.specs.Grammar.{by_name, by_array, by_braces, no_arguments, last_argument, next_argument}
 use Rattle.id_grammar.specs.Grammar.{by_statement, by_next, by_body, by_last, Derives, opened, unconditional, single}
@@ -72,7 +76,8 @@ module _ (P : ℕ → Type 0) where
   of_loop t (more a e) g h i = (g, h, i.0, i.1)
   of_loop t a g h i = tt
 
-  of_for : (x : List ℕ) (i p : ℕ) (low high a : Tree) → P p → Loops P low → Loops P high → Loops P a → Loops P (for_with_tail x i low high a p)
+  of_for : (x : List ℕ) (i p : ℕ) (low high a : Tree) → P p → Loops P low → Loops P high → Loops P a
+      → Loops P (for_with_tail x i low high a p)
   of_for x i p low high (more a e) g h k l = (g, h, k, l.0, l.1)
   of_for x i p low high a g h k l = tt
 
@@ -93,9 +98,11 @@ module _ (P : ℕ → Type 0) where
   Opens-fills : {s : Phrase} {k : TokenKind} {p : ℕ} {r : Rest} → Opens s k p r → (k ≡ Sign LeftBrace → P p) → Fills P r
   Opens-fills definition g = λ x q a h. deepened_fills (λ k. sign Becomes (body_of x a k q)) (λ k e j. (h, j))
   Opens-fills no_parameters g = tt
-  Opens-fills (first_parameter {x = x} {p = p}) g = deepened_fills (λ k. part MoreParameters (λ a. done (more (param x k p) a))) (λ k a h. (tt, h))
+  Opens-fills (first_parameter {x = x} {p = p}) g =
+      deepened_fills (λ k. part MoreParameters (λ a. done (more (param x k p) a))) (λ k a h. (tt, h))
   Opens-fills last_parameter g = tt
-  Opens-fills next_parameter g = λ x p. deepened_fills (λ k. part MoreParameters (λ a. done (more (param x k p) a))) (λ k a h. (tt, h))
+  Opens-fills next_parameter g =
+      λ x p. deepened_fills (λ k. part MoreParameters (λ a. done (more (param x k p) a))) (λ k a h. (tt, h))
   Opens-fills by_conditional g = λ t h x i y j. (h, i, j)
   Opens-fills denied g = λ e h. h
   Opens-fills negated g = λ e h. h
@@ -108,8 +115,10 @@ module _ (P : ℕ → Type 0) where
   Opens-fills no_arguments g = tt
   Opens-fills last_argument g = tt
   Opens-fills next_argument g = λ e h a i. (h, i)
-  Opens-fills (by_braces {p = p}) g =
-      ((λ a h. of_block p a h, λ q x j low h high k a l. of_for x j p low high a (g refl) h k l), λ q t h a i. of_loop t a (g refl) h i)
+  Opens-fills (by_braces {p = p}) g = (
+    (λ a h. of_block p a h, λ q x j low h high k a l. of_for x j p low high a (g refl) h k l),
+    λ q t h a i. of_loop t a (g refl) h i,
+  )
   Opens-fills (by_statement {x = x} {p = p}) g = (
     λ e i a h. of_statement (binding x e p) a i h,
     λ q i m h. (
@@ -144,7 +153,8 @@ module _ (P : ℕ → Type 0) where
         Follows-loops f (λ j h. (front, h)) (AllBraces-back us (t ∷ vs) g).1
     Derives-loops (some_arguments f) g = Follows-loops f (λ e h a i. (h, i)) g
 
-    Follows-loops : {r : Rest} {ts : List Token} {e : Tree} {h : ℕ} → Follows r ts e h → Fills P r → AllBraces P ts → Loops P e
+    Follows-loops : {r : Rest} {ts : List Token} {e : Tree} {h : ℕ} → Follows r ts e h → Fills P r → AllBraces P ts
+        → Loops P e
     Follows-loops ended k g = k
     Follows-loops (taken i f) k g = Follows-loops f k g.1
     Follows-loops (chosen {t = t} i f) k g = Follows-loops f (k.1 t.start) g.1
@@ -160,7 +170,8 @@ module _ (P : ℕ → Type 0) where
 
   pub Program-loops : {ts : List Token} {e : Tree} {h : ℕ} → Program ts e h → AllBraces P ts → Loops P e
   Program-loops (empty i) g = tt
-  Program-loops (defined {us = us} {ts = ts} d p) g = (Derives-loops d (AllBraces-front us ts g), Program-loops p (AllBraces-back us ts g))
+  Program-loops (defined {us = us} {ts = ts} d p) g =
+      (Derives-loops d (AllBraces-front us ts g), Program-loops p (AllBraces-back us ts g))
 
 -- ---- the tokens of a text
 
@@ -178,7 +189,8 @@ first_is : (text rest : List ℕ) (s : Symbol) → s ≡ LeftBrace → text ≡ 
 first_is text rest s e h =
     ap (λ x. slice_get x 0) (h ∙ ap (λ x. sign_of x ++ rest) e)
 
-brace_begins : {text : List ℕ} {k : Option TokenKind} {n : ℕ} → Begins text k n → k ≡ Some (Sign LeftBrace) → slice_get text 0 ≡ Some 123
+brace_begins : {text : List ℕ} {k : Option TokenKind} {n : ℕ} → Begins text k n → k ≡ Some (Sign LeftBrace)
+    → slice_get text 0 ≡ Some 123
 brace_begins (blank o) e = absurd cc
 brace_begins (comment o) e = absurd cc
 brace_begins (keyword k o is) e = absurd cc
@@ -187,25 +199,32 @@ brace_begins (digits o small) e = absurd cc
 brace_begins {text} (symbol s h) e = let same : s ≡ LeftBrace = cc in first_is text h.stands.0 s same h.stands.1
 
 behind_drop : (n : ℕ) (text : List ℕ) (j : ℕ) → slice_get (drop n text) j ≡ Some 123 → slice_get text (n + j) ≡ Some 123
-behind_drop zero text j h = subst (λ (i : ℕ). slice_get text i ≡ Some 123) (let same : j ≡ 0 + j = omega arith in same) h
+behind_drop zero text j h =
+    subst (λ (i : ℕ). slice_get text i ≡ Some 123) (let same : j ≡ 0 + j = omega arith in same) h
 behind_drop (suc n) [] j h = absurd cc
 behind_drop (suc n) (b ∷ text) j h =
-    subst (λ (i : ℕ). slice_get (b ∷ text) i ≡ Some 123) (let same : suc (n + j) ≡ suc n + j = omega arith in same) (behind_drop n text j h)
+    subst (λ (i : ℕ). slice_get (b ∷ text) i ≡ Some 123) (let same : suc (n + j) ≡ suc n + j = omega arith in
+    same) (behind_drop n text j h)
 
-later : (text : List ℕ) (at n : ℕ) (ts : List Token) → AllBraces (IsBraceIn (drop n text) (at + n)) ts → AllBraces (IsBraceIn text at) ts
+later : (text : List ℕ) (at n : ℕ) (ts : List Token) → AllBraces (IsBraceIn (drop n text) (at + n)) ts
+    → AllBraces (IsBraceIn text at) ts
 later text at n ts h =
     AllBraces-to (IsBraceIn (drop n text) (at + n)) (IsBraceIn text at)
     (λ q b. record { index = n + b.index; there = omega (arith, b.there); is = behind_drop n text b.index b.is }) ts h
 
-braces_from : {at : ℕ} {text : List ℕ} {ts : List Token} {e : Ending} → Lexes at text ts e → AllBraces (IsBraceIn text at) ts
+braces_from : {at : ℕ} {text : List ℕ} {ts : List Token} {e : Ending} → Lexes at text ts e
+    → AllBraces (IsBraceIn text at) ts
 braces_from {at} end = (λ e. absurd cc, tt)
 braces_from {at} {text} {ts} (gap n b rest) = later text at n ts (braces_from rest)
-braces_from {at} {text} (token {ts = us} k n b rest) =
-    (λ e. record { index = 0; there = omega arith; is = brace_begins b (ap (λ x. Some x) e) }, later text at n us (braces_from rest))
+braces_from {at} {text} (token {ts = us} k n b rest) = (
+  λ e. record { index = 0; there = omega arith; is = brace_begins b (ap (λ x. Some x) e) },
+  later text at n us (braces_from rest),
+)
 braces_from (too_large large) = tt
 braces_from (bad_byte nothing) = tt
 
-pub braces_there : (text : List ℕ) (ts : List Token) → Lexes 0 text ts Whole → AllBraces (λ q. has_brace text q ≡ true) ts
+pub braces_there : (text : List ℕ) (ts : List Token) → Lexes 0 text ts Whole
+    → AllBraces (λ q. has_brace text q ≡ true) ts
 braces_there text ts h =
     AllBraces-to (IsBraceIn text 0) (λ q. has_brace text q ≡ true)
     (λ q b. (let same : q ≡ b.index = omega (arith, b.there) in

@@ -1,6 +1,7 @@
 -- Facts in a line, each of which follows from facts behind it and is none of them: each fact of a source is in such a
 -- line, and so of a round that is no later than the line is long.
-use Rattle.std.proofs.Common.{◌≡◌, ◌⊎◌, inl, inr, ℕ, zero, suc, ◌≤◌, Bool as Truth, true, false, List, [], ◌∷◌, length, refl, sym, ap, subst, ◌∙◌, arith}
+use Rattle.std.proofs.Common.{◌≡◌, ◌⊎◌, inl, inr, ℕ, zero, suc, ◌≤◌, Bool as Truth, true, false, List, [], ◌∷◌, length}
+use Rattle.std.proofs.Common.{refl, sym, ap, subst, ◌∙◌, arith}
 use Rattle.std.proofs.lemmas.Bool.{cases_lt, false≢true}
 use Rattle.id_value.specs.List.{AllDiffer, Among}
 use Rattle.id_source.specs.declared.Fact.{Fact}
@@ -57,7 +58,11 @@ module _ (S : Source) where
   chain_holds (g ∷ fs) h f (inl e) =
       let x = h.0 in
       let here : Rounds S (length (g ∷ fs)) g =
-      inr (x.premises, x.rule, every_to (λ k. Among k fs) (Rounds S (length fs)) (chain_holds fs h.2) x.premises x.there) in
+      inr (
+        x.premises,
+        x.rule,
+        every_to (λ k. Among k fs) (Rounds S (length fs)) (chain_holds fs h.2) x.premises x.there,
+      ) in
       subst (Rounds S (length (g ∷ fs))) (sym e) here
 
   -- a longer chain
@@ -71,8 +76,8 @@ module _ (S : Source) where
   HasAll gs list = Every (λ g. Among g list) gs
 
   -- where each of some facts can be had, all of them can
-  extend_all : (F : Fact → Type 0) → ((f : Fact) → F f → (fs : List Fact) → IsChain fs → Longer fs (Among f)) → (gs : List Fact) → Every F gs
-      → (fs : List Fact) → IsChain fs → Longer fs (HasAll gs)
+  extend_all : (F : Fact → Type 0) → ((f : Fact) → F f → (fs : List Fact) → IsChain fs → Longer fs (Among f))
+      → (gs : List Fact) → Every F gs → (fs : List Fact) → IsChain fs → Longer fs (HasAll gs)
   extend_all F one [] all fs h = record { list = fs; chain = h; keeps = λ g l. l; has = tt }
   extend_all F one (g ∷ gs) all fs h =
       let x = one g all.0 fs h in

@@ -1,6 +1,8 @@
--- Lemmas on specs/AtOnce.antt: what a reader finds of a text's rounds and of a graph bounds each run of the text, so that
+-- Lemmas on specs/AtOnce.antt: what a reader finds of a text's rounds and of a graph bounds each run of the text, so
+-- that
 -- its status tells of faults.
-use Rattle.std.proofs.Common.{◌≡◌, inl, inr, ◌⊎◌, ℕ, ◌-◌, ◌*◌, ◌^◌, ◌≤◌, ◌<◌, Bool, List, length, Result, sym, subst, ◌∙◌}
+use Rattle.std.proofs.Common.{◌≡◌, inl, inr, ◌⊎◌, ℕ, ◌-◌, ◌*◌, ◌^◌, ◌≤◌, ◌<◌, Bool, List, length, Result, sym, subst}
+use Rattle.std.proofs.Common.{◌∙◌}
 use Rattle.id_value.specs.List.{Among}
 use Rattle.id_value.specs.declared.Constant.{Constant}
 use Rattle.id_check.specs.declared.checked.Checked.{Checked}
@@ -31,7 +33,8 @@ use Rattle.id_promises.proofs.SameGraphsLemmas.{Schemas-alike}
 use Rattle.id_promises.proofs.StatusLemmas.{ends_by, told_there}
 
 -- what may be done by the facts of a source may be done by a list that has them
-by_list : (S : Source) (fs : List Fact) → ((f : Fact) → Holds S f → Among f fs) → (p : Path) → IsActive S p → IsActiveBy S.checked (λ f. Among f fs) p
+by_list : (S : Source) (fs : List Fact) → ((f : Fact) → Holds S f → Among f fs) → (p : Path) → IsActive S p
+    → IsActiveBy S.checked (λ f. Among f fs) p
 by_list S fs all p (something_on e h) = something_on e (all _ h)
 by_list S fs all p (index_has stands h) = index_has stands (all _ h)
 by_list S fs all p (loop_begins stands h q) = loop_begins stands (all _ h) q
@@ -47,54 +50,62 @@ tells_too S T status m t = record {
   );
 }
 
-module _ (bounded : Bounded) (sound : Soundness) (complete : QuietIsComplete) (text : List ℕ) (words : List (List ℕ)) where
-  module _ (count steps status : ℕ) (t b : Bool) (old new : SinkView) (result : Result (Unit {0}) PrintError)
-      (h : HasRun text words count t steps b old new status result) where
-    its_source : Source
-    its_source = source h.program h.inputs
+module _ (bounded : Bounded) (sound : Soundness) (complete : QuietIsComplete) (text : List ℕ) (words : List (List ℕ))
+  where
+    module _ (count steps status : ℕ) (t b : Bool) (old new : SinkView) (result : Result (Unit {0}) PrintError)
+        (h : HasRun text words count t steps b old new status result) where
+      its_source : Source
+      its_source = source h.program h.inputs
 
-    -- the source of the program whose rounds were read
-    module _ (small : steps < 2 ^ 64 - 1) (e : AreFoundEnough text words steps) where
-      abbrev P : Checked
-      P = (e.are).program
+      -- the source of the program whose rounds were read
+      module _ (small : steps < 2 ^ 64 - 1) (e : AreFoundEnough text words steps) where
+        abbrev P : Checked
+        P = (e.are).program
 
-      abbrev vs : List Constant
-      vs = (e.are).inputs
+        abbrev vs : List Constant
+        vs = (e.are).inputs
 
-      alike : AreAlike h.program P
-      alike = AreAlike-text text h.program P h.is_program (e.are).is_program
+        alike : AreAlike h.program P
+        alike = AreAlike-text text h.program P h.is_program (e.are).is_program
 
-      schemas : Schemas P h.graph
-      schemas = Schemas-alike h.program P alike (AreAlike-sym h.program P alike) h.graph (schemas_of h.own)
+        schemas : Schemas P h.graph
+        schemas = Schemas-alike h.program P alike (AreAlike-sym h.program P alike) h.graph (schemas_of h.own)
 
-      given : h.inputs ≡ vs
-      given = inputs_same P words h.inputs vs (inputs_to h.program P alike words h.inputs h.are_inputs) (e.are).are_inputs
+        given : h.inputs ≡ vs
+        given = inputs_same P words h.inputs vs (inputs_to h.program P alike words h.inputs h.are_inputs)
+            (e.are).are_inputs
 
-      numbers : messages_at_once e.graph ≡ messages_at_once h.graph
-      numbers = at_once P e.graph e.schemas ∙ sym (at_once P h.graph schemas)
+        numbers : messages_at_once e.graph ≡ messages_at_once h.graph
+        numbers = at_once P e.graph e.schemas ∙ sym (at_once P h.graph schemas)
 
-      all : AreAllFacts (source P vs) e.facts
-      all = all_facts text words e.round e.facts e.next e.are e.are_next e.adds_none
+        all : AreAllFacts (source P vs) e.facts
+        all = all_facts text words e.round e.facts e.next e.are e.are_next e.adds_none
 
-      enough : AreEnough (source P vs) h.graph steps
-      enough = record {
-        paths = e.paths;
-        active = λ p k. (e.active).each p (by_list (source P vs) e.facts all.all p k);
-        enough = subst (λ n. n * length e.paths ≤ steps) numbers e.enough;
-      }
+        enough : AreEnough (source P vs) h.graph steps
+        enough = record {
+          paths = e.paths;
+          active = λ p k. (e.active).each p (by_list (source P vs) e.facts all.all p k);
+          enough = subst (λ n. n * length e.paths ≤ steps) numbers e.enough;
+        }
 
-      tells_there : TellsFaults (source P vs) status
-      tells_there =
-          let at = (h.run).runs ((h.run).order).0 ((h.run).order).1 in
-          let r : RunOf (source P vs) = record { graph = h.graph; schemas = schemas; count = count; positions = at.positions } in
-          let end = subst (λ us. IsSameBut (run h.graph count at.positions (start h.graph us count)) (h.machine).world) given at.end in
-          told_there bounded sound complete (source P vs) (inputs_of P words vs (e.are).are_inputs) r (h.machine).world end steps status small enough
-          (ends_by h.graph count steps (h.machine).world text b status h.output h.ends)
+        tells_there : TellsFaults (source P vs) status
+        tells_there =
+            let at = (h.run).runs ((h.run).order).0 ((h.run).order).1 in
+            let r : RunOf (source P vs) =
+            record { graph = h.graph; schemas = schemas; count = count; positions = at.positions } in
+            let end =
+            subst (λ us. IsSameBut (run h.graph count at.positions (start h.graph us count)) (h.machine).world) given
+            at.end in
+            told_there bounded sound complete (source P vs) (inputs_of P words vs (e.are).are_inputs) r
+            (h.machine).world
+            end steps status small enough
+            (ends_by h.graph count steps (h.machine).world text b status h.output h.ends)
 
-      tells : TellsFaults (source h.program h.inputs) status
-      tells =
-          tells_too (source h.program h.inputs) (source P vs) status
-          (MeanTheSame-text text words h.program P h.inputs vs h.is_program (e.are).is_program h.are_inputs (e.are).are_inputs) tells_there
+        tells : TellsFaults (source h.program h.inputs) status
+        tells =
+            tells_too (source h.program h.inputs) (source P vs) status
+            (MeanTheSame-text text words h.program P h.inputs vs h.is_program (e.are).is_program h.are_inputs
+            (e.are).are_inputs) tells_there
 
 -- statuses that tell of the faults of sources that mean the same are one
 one_status : (S T : Source) (m n : ℕ) → MeanTheSame S T → TellsFaults S m → TellsFaults T n → m ≡ n
@@ -111,7 +122,8 @@ AtOnce-laws bounded sound complete = record {
       tells bounded sound complete text words count steps status t b old new result h small e;
   same = λ text words count steps status t b old new result n m other u c before after outcome small low e d h k.
       one_status (source h.program h.inputs) (source k.program k.inputs) status other
-      (MeanTheSame-text text words h.program k.program h.inputs k.inputs h.is_program k.is_program h.are_inputs k.are_inputs)
+      (MeanTheSame-text text words h.program k.program h.inputs k.inputs h.is_program k.is_program h.are_inputs
+      k.are_inputs)
       (tells bounded sound complete text words count steps status t b old new result h small e)
       (tells bounded sound complete text words n m other u c before after outcome k low d);
 }

@@ -1,6 +1,7 @@
 -- Where a source has finitely many paths, names, structures, stores and asks, and gives nothing two values, its facts
 -- are finitely many, and so are all of one round.
-use Rattle.std.proofs.Common.{◌≡◌, inl, inr, ℕ, zero, suc, ◌+◌, ◌≤◌, true, List, [], ◌∷◌, ◌++◌, length, map, refl, sym, ap, subst, ◌∙◌, arith}
+use Rattle.std.proofs.Common.{◌≡◌, inl, inr, ℕ, zero, suc, ◌+◌, ◌≤◌, true, List, [], ◌∷◌, ◌++◌, length, map, refl, sym}
+use Rattle.std.proofs.Common.{ap, subst, ◌∙◌, arith}
 use Rattle.std.specs.Prelude.{flat_map, pos}
 use Rattle.id_value.specs.List.{AllDiffer, Among}
 use Rattle.std.proofs.lemmas.Bool.{cases_lt}
@@ -25,8 +26,10 @@ use Rattle.id_source.specs.declared.Put.{Put}
 use Rattle.id_source.specs.declared.Shape.{Shape}
 use Rattle.id_source.specs.declared.SourceValue.{SourceValue}
 use Rattle.id_source.specs.declared.SourceValue.TheVariants as value
-use Rattle.id_source.specs.Facts.{Rule, below, outermost, main_on, param_has, literal_has, unary_has, binary_has, name_has, conditional_has}
-use Rattle.id_source.specs.Facts.{callee_on, argument_has, call_has, first_has, index_begins, index_counts, next_has, loop_has, block_has, binding_has, array_has, fetch_has}
+use Rattle.id_source.specs.Facts.{Rule, below, outermost, main_on, param_has, literal_has, unary_has, binary_has}
+use Rattle.id_source.specs.Facts.{name_has, conditional_has}
+use Rattle.id_source.specs.Facts.{callee_on, argument_has, call_has, first_has, index_begins, index_counts, next_has}
+use Rattle.id_source.specs.Facts.{loop_has, block_has, binding_has, array_has, fetch_has}
 use Rattle.id_source.specs.Names.{IsBinder, IsNameValue}
 use Rattle.id_source.specs.Rounds.{Every, Holds, IsCoherent, Rounds}
 use Rattle.id_source.specs.Sources.{Source}
@@ -49,7 +52,8 @@ among_up_to (suc n) k low = elim (cases_lt k (suc n)) [
   | inr high ↦ inl (omega (arith, low, high))
 ]
 
-among_flat : {A B : Type 0} (f : A → List B) (y : B) (x : A) (xs : List A) → Among x xs → Among y (f x) → Among y (flat_map f xs)
+among_flat : {A B : Type 0} (f : A → List B) (y : B) (x : A) (xs : List A) → Among x xs → Among y (f x)
+    → Among y (flat_map f xs)
 among_flat f y x [] h k = absurd h
 among_flat {B = B} f y x (z ∷ xs) (inl e) k = Among-left y (f z) (flat_map f xs) (subst (λ w. Among y (f w)) e k)
 among_flat f y x (z ∷ xs) (inr h) k = Among-right y (f z) (flat_map f xs) (among_flat f y x xs h k)
@@ -147,7 +151,8 @@ less_front (s ∷ ss) (t ∷ ts) x (inr h) =
     let head : t ≡ s = first_same y.2 in
     let rest : ts ++ x ∷ [] ≡ y.0 = rest_same y.2 in
     let there : Among ts (fronts ss) = less_front ss ts x (subst (λ us. Among us (fronts ss)) (sym rest) y.1) in
-    inr (subst (λ z. Among (z ∷ ts) (map (λ us. s ∷ us) (fronts ss))) (sym head) (Among-map (λ us. s ∷ us) ts (fronts ss) there))
+    inr (subst (λ z. Among (z ∷ ts) (map (λ us. s ∷ us) (fronts ss))) (sym head)
+    (Among-map (λ us. s ∷ us) ts (fronts ss) there))
   where
     first_same : {a b : PathStep} {xs ys : List PathStep} → a ∷ xs ≡ b ∷ ys → a ≡ b
     first_same e = cc
@@ -164,9 +169,11 @@ above ps = flat_map (λ (p : Path). map path_from (fronts p.steps)) ps
 
 among_above : (ps : List Path) (p : Path) → Among p ps → Among p (above ps)
 among_above ps p h =
-    among_flat (λ (q : Path). map path_from (fronts q.steps)) p p ps h (Among-map path_from p.steps (fronts p.steps) (whole_front p.steps))
+    among_flat (λ (q : Path). map path_from (fronts q.steps)) p p ps h
+    (Among-map path_from p.steps (fronts p.steps) (whole_front p.steps))
 
-from_flat : {A B : Type 0} (f : A → List B) (y : B) (xs : List A) → Among y (flat_map f xs) → (x : A) × Among x xs × Among y (f x)
+from_flat : {A B : Type 0} (f : A → List B) (y : B) (xs : List A) → Among y (flat_map f xs)
+    → (x : A) × Among x xs × Among y (f x)
 from_flat f y [] h = absurd h
 from_flat f y (x ∷ xs) h = elim (Among-either y (f x) (flat_map f xs) h) [
   | inl here ↦ (x, inl refl, here)
@@ -179,7 +186,8 @@ above_front ps p e k h =
     let q = x.0 in
     let y = Among-from_map path_from (below p e k) (fronts q.steps) x.2 in
     let same : p.steps ++ record { place = e; number = k } ∷ [] ≡ y.0 = ap (λ (r : Path). r.steps) y.2 in
-    let there : Among (p.steps ++ record { place = e; number = k } ∷ []) (fronts q.steps) = subst (λ us. Among us (fronts q.steps)) (sym same) y.1 in
+    let there : Among (p.steps ++ record { place = e; number = k } ∷ []) (fronts q.steps) =
+    subst (λ us. Among us (fronts q.steps)) (sym same) y.1 in
     among_flat (λ (r : Path). map path_from (fronts r.steps)) p q ps x.1
     (Among-map path_from p.steps (fronts q.steps) (less_front q.steps p.steps (record { place = e; number = k }) there))
 
@@ -216,16 +224,19 @@ module _ (S : Source) (one : IsCoherent S) (f : IsFinite S) where
   on_path p e h = among_above _ p (Among-left p f.paths _ (f.on p e h))
 
   -- a binder's value
-  name_has_path : (p : Path) (b : ℕ) (v : SourceValue) (z : Node) → Stands P b z → is_binder z ≡ true → Holds S (Has p (place P b) v) → Among p all_paths
+  name_has_path : (p : Path) (b : ℕ) (v : SourceValue) (z : Node) → Stands P b z → is_binder z ≡ true
+      → Holds S (Has p (place P b) v) → Among p all_paths
   name_has_path p b v z s is h =
       let n : NameValue = record { path = p; place = place P b; value = v } in
-      let binder : IsBinder P (place P b) = record { row = b; within = s.within; binds = ap is_binder s.node ∙ is; here = refl } in
+      let binder : IsBinder P (place P b) =
+      record { row = b; within = s.within; binds = ap is_binder s.node ∙ is; here = refl } in
       among_above _ p (Among-right p f.paths _ (Among-left p (map name_path f.names) (map ask_path f.asks)
       (Among-map name_path n f.names (f.named n (record { binder = binder; holds = h })))))
 
   ask_has_path : (s : Ask) → Holds S (fact.Ask s) → Among (s.fetch).path all_paths
   ask_has_path s h =
-      among_above _ (s.fetch).path (Among-right (s.fetch).path f.paths _ (Among-right (s.fetch).path (map name_path f.names) (map ask_path f.asks)
+      among_above _ (s.fetch).path
+      (Among-right (s.fetch).path f.paths _ (Among-right (s.fetch).path (map name_path f.names) (map ask_path f.asks)
       (Among-map ask_path s f.asks (f.asked s h))))
 
   by_round : (n : ℕ) (g : Fact) → Rounds S n g → Holds S g
@@ -233,14 +244,16 @@ module _ (S : Source) (one : IsCoherent S) (f : IsFinite S) where
 
   -- what Has a value does so at one of these paths
   has_path_by : (n : ℕ) → ((p : Path) (e : ℕ) (v : SourceValue) → Rounds S n (Has p e v) → Among p all_paths)
-      → {fs : List Fact} {p : Path} {e : ℕ} {v : SourceValue} → Rule S fs (Has p e v) → Every (Rounds S n) fs → Holds S (Has p e v) → Among p all_paths
+      → {fs : List Fact} {p : Path} {e : ℕ} {v : SourceValue} → Rule S fs (Has p e v) → Every (Rounds S n) fs
+      → Holds S (Has p e v) → Among p all_paths
   has_path_by n ih (param_has i) h k = on_path outermost _ (by_round 1 _ (inr ([], main_on, tt)))
   has_path_by n ih (literal_has s) h k = on_path _ _ (by_round n _ h.0)
   has_path_by n ih (unary_has c s is) h k = on_path _ _ (by_round n _ h.0)
   has_path_by n ih (binary_has c d s is) h k = on_path _ _ (by_round n _ h.0)
   has_path_by n ih (name_has s is) h k = on_path _ _ (by_round n _ h.0)
   has_path_by n ih (conditional_has c) h k = on_path _ _ (by_round n _ h.0)
-  has_path_by n ih (argument_has s t is def there) h k = on_path _ _ (by_round (suc n) _ (inr (_, callee_on s is def, (h.0, tt))))
+  has_path_by n ih (argument_has s t is def there) h k =
+      on_path _ _ (by_round (suc n) _ (inr (_, callee_on s is def, (h.0, tt))))
   has_path_by n ih (call_has s is def) h k = on_path _ _ (by_round n _ h.0)
   has_path_by n ih (first_has {m = m} s x is) h k = name_has_path _ m _ _ x.next refl k
   has_path_by n ih (index_begins {x = x} s is) h k = name_has_path _ x _ _ s.index refl k
@@ -273,7 +286,8 @@ module _ (S : Source) (one : IsCoherent S) (f : IsFinite S) where
   one_key (Has p e v) (Has q d w) x y same =
       let path : p ≡ q = cc in
       let spot : e ≡ d = cc in
-      let worth : v ≡ w = one.values q d v w (subst (λ z. Holds S (Has q z v)) spot (subst (λ r. Holds S (Has r e v)) path x)) y in
+      let worth : v ≡ w =
+      one.values q d v w (subst (λ z. Holds S (Has q z v)) spot (subst (λ r. Holds S (Has r e v)) path x)) y in
       λ i. Has (path i) (spot i) (worth i)
   one_key (Has p e v) (On q d) x y same = cc
   one_key (Has p e v) (fact.Shape s) x y same = cc
@@ -336,14 +350,18 @@ module _ (S : Source) (one : IsCoherent S) (f : IsFinite S) where
   unfolding key
   in_keys (On p e) h =
       let at = holds_placed S (On p e) h in
-      Among-left (On p e) ons _ (among_flat ons_at (On p e) p all_paths (on_path p e h) (Among-map (λ d. On p d) e spots (in_spots e at.place)))
+      Among-left (On p e) ons _
+      (among_flat ons_at (On p e) p all_paths (on_path p e h) (Among-map (λ d. On p d) e spots (in_spots e at.place)))
   in_keys (Has p e v) h =
       let at = holds_placed S (Has p e v) h in
       let spot = at.0 in
       Among-right (Has p e nothing) ons _ (Among-left (Has p e nothing) hass _
-      (among_flat hass_at (Has p e nothing) p all_paths (has_path h.round p e v h.there) (Among-map (λ d. Has p d nothing) e spots (in_spots e spot.place))))
+      (among_flat hass_at (Has p e nothing) p all_paths (has_path h.round p e v h.there)
+      (Among-map (λ d. Has p d nothing) e spots (in_spots e spot.place))))
   in_keys (fact.Shape s) h =
-      Among-right (fact.Shape s) ons _ (Among-right (fact.Shape s) hass _ (Among-left (fact.Shape s) shapes _ (Among-map (λ t. fact.Shape t) s f.shapes (f.made s h))))
+      Among-right (fact.Shape s) ons _
+      (Among-right (fact.Shape s) hass _
+      (Among-left (fact.Shape s) shapes _ (Among-map (λ t. fact.Shape t) s f.shapes (f.made s h))))
   in_keys (fact.Put s) h =
       Among-right (fact.Put s) ons _ (Among-right (fact.Put s) hass _ (Among-right (fact.Put s) shapes _
       (Among-left (fact.Put s) puts asks (Among-map (λ t. fact.Put t) s f.puts (f.put s h)))))
@@ -358,14 +376,17 @@ module _ (S : Source) (one : IsCoherent S) (f : IsFinite S) where
         arith,
         length-map gs key,
         AllDiffer-few (map key gs) keys (differ_map key gs differ (λ x y a b e. one_key x y (hold x a) (hold y b) e))
-            (λ k h. let y = Among-from_map key k gs h in subst (λ z. Among z keys) (sym y.2) (in_keys y.0 (hold y.0 y.1))),
+            (λ k h. let y = Among-from_map key k gs h in
+            subst (λ z. Among z keys) (sym y.2) (in_keys y.0 (hold y.0 y.1))),
       )
 
   -- so all facts are of this round
   in_last : (g : Fact) → Holds S g → Rounds S (length keys) g
   in_last g h =
       let x = in_chain S g h in
-      let few = few_facts x.list (chain_differs S x.list x.chain) (λ k l. by_round (length x.list) k (chain_holds S x.list x.chain k l)) in
+      let few =
+      few_facts x.list (chain_differs S x.list x.chain)
+      (λ k l. by_round (length x.list) k (chain_holds S x.list x.chain k l)) in
       later S (length x.list) (length keys) g few (chain_holds S x.list x.chain g x.there)
 
 -- all facts of such a source are those of one round

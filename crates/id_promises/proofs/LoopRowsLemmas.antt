@@ -2,12 +2,14 @@
 use Rattle.std.proofs.Common.{◌≡◌, ℕ, zero, suc, ◌<◌, true, false, List, [], ◌∷◌, ◌++◌, length, refl, sym, ◌∙◌, arith}
 use Rattle.std.proofs.lemmas.Bool.{false≢true}
 use Rattle.id_grammar.specs.Tree as tree
-use Rattle.id_grammar.specs.Tree.{Tree, literal, unary, binary, conditional, call, block, loop, for_loop, array, binding, fetch, next, store, param, define, none, more}
+use Rattle.id_grammar.specs.Tree.{Tree, literal, unary, binary, conditional, call, block, loop, for_loop, array}
+use Rattle.id_grammar.specs.Tree.{binding, fetch, next, store, param, define, none, more}
 use Rattle.id_table.specs.declared.row.Node.TheVariants as node
 use Rattle.id_table.specs.declared.row.Row.{Row}
 use Rattle.id_table.specs.declared.row.Stand.{Stand}
 use Rattle.id_table.specs.Names.{first_names, number_of}
-use Rattle.id_table.specs.Rows.{Parts, add, add_arguments, add_entries, add_nexts, add_variables, arm, at, begin_counting, begin_for, begin_loop, carry}
+use Rattle.id_table.specs.Rows.{Parts, add, add_arguments, add_entries, add_nexts, add_variables, arm, at}
+use Rattle.id_table.specs.Rows.{begin_counting, begin_for, begin_loop, carry}
 use Rattle.id_table.specs.Rows.{end_loop, enter_loop, in_top, last, naming, rows_of, size, with_row}
 use Rattle.id_table.specs.Tables.{is_loop}
 use Rattle.id_promises.proofs.BracesLemmas.{Loops}
@@ -113,7 +115,8 @@ module _ (P : ℕ → Type 0) where
     fine none s T l h = h
     fine (more a b) s T l h = fine b s (add s T a) l.1 (fine a s T l.0 h)
 
-    fine_arguments : (t : Tree) (s : Stand) (p e i : ℕ) (T : Parts) → Loops P t → Fine T.rows → Fine (add_arguments s p e i T t).rows
+    fine_arguments : (t : Tree) (s : Stand) (p e i : ℕ) (T : Parts) → Loops P t → Fine T.rows
+        → Fine (add_arguments s p e i T t).rows
     fine_arguments (more a b) s p e i T l h =
         fine_arguments b s p e (suc i) _ l.1 (other _ _ refl (fine a s T l.0 h))
     fine_arguments _ s p e i T l h = h
@@ -131,6 +134,7 @@ module _ (P : ℕ → Type 0) where
   fine_at (r ∷ R) (suc i) h less e = fine_at R i h.1 (omega arith) e
 
   -- the rows of loops of a tree stand where its loops do
-  pub loop_rows : (t : Tree) → Loops P t → (i : ℕ) → i < length (rows_of t) → is_loop (at (rows_of t) i).node ≡ true → P (at (rows_of t) i).place
+  pub loop_rows : (t : Tree) → Loops P t → (i : ℕ) → i < length (rows_of t) → is_loop (at (rows_of t) i).node ≡ true
+      → P (at (rows_of t) i).place
   loop_rows t l i less e =
       fine_at (rows_of t) i (other _ _ refl (fine t (in_top 0) (record { rows = []; names = first_names }) l tt)) less e

@@ -1,5 +1,6 @@
 -- The steps of the facts of a round: their numbers are at most the round's, and those of calls are 0.
-use Rattle.std.proofs.Common.{◌≡◌, ◌⊎◌, ℕ, zero, suc, ◌≤◌, Bool as Truth, true, false, List, [], ◌∷◌, ◌++◌, All, inl, inr, refl, arith}
+use Rattle.std.proofs.Common.{◌≡◌, ◌⊎◌, ℕ, zero, suc, ◌≤◌, Bool as Truth, true, false, List, [], ◌∷◌, ◌++◌, All, inl}
+use Rattle.std.proofs.Common.{inr, refl, arith}
 use Rattle.std.proofs.lemmas.List.Elements.{All-nil, All-cons, All-head, All-tail, All-append}
 use Rattle.id_table.specs.declared.row.Node.TheVariants.{Loop}
 use Rattle.id_value.specs.declared.Constant.{Constant}
@@ -91,7 +92,8 @@ module _ (P : Checked) where
       (All-cons (IsNumbered P n) s [] (record { most = omega arith; only = inl refl }) (All-nil (IsNumbered P n)))
 
   -- without its last step
-  front : (n : ℕ) (p : Path) (e k : ℕ) → AreNumbered P n (below p e k) → AreNumbered P n p × IsNumbered P n (record { place = e; number = k })
+  front : (n : ℕ) (p : Path) (e k : ℕ) → AreNumbered P n (below p e k)
+      → AreNumbered P n p × IsNumbered P n (record { place = e; number = k })
   front n p e k h = go p.steps h
     where
       go : (ss : List PathStep) → All (IsNumbered P n) (ss ++ record { place = e; number = k } ∷ [])
@@ -116,34 +118,42 @@ module _ (P : Checked) where
       }) (All-nil I))
 
 -- where a loop goes on or not
-goes_numbered : (S : Source) (n r w : ℕ) (p : Path) (k : ℕ) (c : Truth) {fs : List Fact} → GoesOn S r w p k c fs → Every (Numbered S.checked n) fs
-    → AreNumbered S.checked (suc n) (below p (place S.checked r) k)
+goes_numbered : (S : Source) (n r w : ℕ) (p : Path) (k : ℕ) (c : Truth) {fs : List Fact} → GoesOn S r w p k c fs
+    → Every (Numbered S.checked n) fs → AreNumbered S.checked (suc n) (below p (place S.checked r) k)
 goes_numbered S n r w p k c (by_predicate j s) h = path_up S.checked n (below p (place S.checked r) k) h.0.0
-goes_numbered S n r w p k c (by_bounds s e) h = path_up S.checked n _ (first_below S.checked n p (place S.checked r) h.0)
+goes_numbered S n r w p k c (by_bounds s e) h =
+    path_up S.checked n _ (first_below S.checked n p (place S.checked r) h.0)
 goes_numbered S n r w p k c (by_index {l = l} j s e) h = next_below S.checked n r s.head w l p j s.loop h.0.0
 
 -- what follows from facts of the round before
-rule_numbered : {S : Source} {fs : List Fact} {f : Fact} (n : ℕ) → Rule S fs f → Every (Numbered S.checked n) fs → Every (Numbered S.checked (suc n)) fs
-    → Numbered S.checked (suc n) f
+rule_numbered : {S : Source} {fs : List Fact} {f : Fact} (n : ℕ) → Rule S fs f → Every (Numbered S.checked n) fs
+    → Every (Numbered S.checked (suc n)) fs → Numbered S.checked (suc n) f
 rule_numbered {S} n main_on g h = All-nil (IsNumbered S.checked (suc n))
-rule_numbered {S} n (param_has {c = c} i) g h = (All-nil (IsNumbered S.checked (suc n)), constant_numbered S.checked (suc n) c)
+rule_numbered {S} n (param_has {c = c} i) g h =
+    (All-nil (IsNumbered S.checked (suc n)), constant_numbered S.checked (suc n) c)
 rule_numbered {S} n (literal_has {c = c} s) g h = (h.0, constant_numbered S.checked (suc n) c)
 rule_numbered {S} n (unary_has {x = x} c s e) g h = (h.0, constant_numbered S.checked (suc n) x)
 rule_numbered {S} n (binary_has {x = x} c d s e) g h = (h.0, constant_numbered S.checked (suc n) x)
 rule_numbered n (name_has s e) g h = (h.0, h.1.0.1)
 rule_numbered n (conditional_has c) g h = (h.0, h.1.1.0.1)
 rule_numbered {S} n (callee_on {n = r} {p = p} s is def) g h = first_below S.checked (suc n) p (place S.checked r) h.0
-rule_numbered {S} n (argument_has {n = r} {p = p} s t is def there) g h = (first_below S.checked (suc n) p (place S.checked r) h.0, h.1.0.1)
+rule_numbered {S} n (argument_has {n = r} {p = p} s t is def there) g h =
+    (first_below S.checked (suc n) p (place S.checked r) h.0, h.1.0.1)
 rule_numbered n (call_has s is def) g h = (h.0, h.1.0.1)
 rule_numbered {S} n (loop_test_on {n = r} {p = p} s) g h = first_below S.checked (suc n) p (place S.checked r) h.0
-rule_numbered {S} n (first_has {n = r} {p = p} s x e) g h = (first_below S.checked (suc n) p (place S.checked r) h.0, h.1.0.1)
-rule_numbered {S} n (turn_on {n = r} {h = d} {w = w} {l = l} p k s) g h = next_below S.checked n r d w l p k s.loop g.0.0
-rule_numbered {S} n (index_begins {n = r} {p = p} s e) g h = (first_below S.checked (suc n) p (place S.checked r) h.0, tt)
-rule_numbered {S} n (index_counts {n = r} {w = w} {l = l} p k s e) g h = (next_below S.checked n r s.head w l p k s.loop g.0.0, tt)
+rule_numbered {S} n (first_has {n = r} {p = p} s x e) g h =
+    (first_below S.checked (suc n) p (place S.checked r) h.0, h.1.0.1)
+rule_numbered {S} n (turn_on {n = r} {h = d} {w = w} {l = l} p k s) g h =
+    next_below S.checked n r d w l p k s.loop g.0.0
+rule_numbered {S} n (index_begins {n = r} {p = p} s e) g h =
+    (first_below S.checked (suc n) p (place S.checked r) h.0, tt)
+rule_numbered {S} n (index_counts {n = r} {w = w} {l = l} p k s e) g h =
+    (next_below S.checked n r s.head w l p k s.loop g.0.0, tt)
 rule_numbered {S} n (loop_store_on {n = r} {w = w} p k s o b) g h = goes_numbered S n r w p k true o g
 rule_numbered {S} n (loop_statement_on {n = r} {w = w} p k s o b) g h = goes_numbered S n r w p k true o g
 rule_numbered {S} n (next_on {n = r} {w = w} p k s o x) g h = goes_numbered S n r w p k true o g
-rule_numbered {S} n (next_has {n = r} {h = d} {w = w} {l = l} p k s x) g h = (next_below S.checked n r d w l p k s g.0.0, h.0.1)
+rule_numbered {S} n (next_has {n = r} {h = d} {w = w} {l = l} p k s x) g h =
+    (next_below S.checked n r d w l p k s g.0.0, h.0.1)
 rule_numbered {S} n (last_on {n = r} {w = w} p k s o) g h = goes_numbered S n r w p k false o g
 rule_numbered {S} n (loop_has {n = r} p k s) g h = ((front S.checked (suc n) p (place S.checked r) k h.0.0).0, h.0.1)
 rule_numbered n (block_has s) g h = (h.0, h.1.0.1)

@@ -1,6 +1,8 @@
--- Lemmas on specs/OneProgram.antt: the tokens of a text are one list, their tree is one, and what a checked program keeps
+-- Lemmas on specs/OneProgram.antt: the tokens of a text are one list, their tree is one, and what a checked program
+-- keeps
 -- beside it is made of that.
-use Rattle.std.proofs.Common.{◌≡◌, ◌+◌, ◌<◌, ◌≤◌, inl, inr, ◌⊎◌, ℕ, zero, suc, Bool, true, false, List, [], ◌∷◌, ◌++◌, length, Option, Some, None}
+use Rattle.std.proofs.Common.{◌≡◌, ◌+◌, ◌<◌, ◌≤◌, inl, inr, ◌⊎◌, ℕ, zero, suc, Bool, true, false, List, [], ◌∷◌, ◌++◌}
+use Rattle.std.proofs.Common.{length, Option, Some, None}
 use Rattle.std.proofs.Common.{map, get_or, refl, sym, ap, subst, ◌∙◌, arith}
 use Rattle.std.specs.Prelude.{◌&&◌, ◌||◌, not, if◌then◌else◌, nat_lt, nat_le, slice_get}
 use Rattle.std.specs.Option.{option_or}
@@ -22,7 +24,8 @@ use Rattle.id_table.proofs.BlocksLemmas.{not_last}
 use Rattle.id_check.specs.Causes.{IsMain, causes_below, defines_main, duplicates, repeated, second, seconds}
 use Rattle.id_check.specs.Chains.{goes_to}
 use Rattle.id_check.specs.Kinds.{AreKinds, EndsIn, in_kind, in_nothing, further, within, link_at, link_of}
-use Rattle.id_check.specs.Scopes.{AreBinders, HasDepths, binder_in, binds, bound_name, closes, first_of, held, is_name, takes, user_of}
+use Rattle.id_check.specs.Scopes.{AreBinders, HasDepths, binder_in, binds, bound_name, closes, first_of, held, is_name}
+use Rattle.id_check.specs.Scopes.{takes, user_of}
 use Rattle.id_check.proofs.LinksLemmas.{link_below, user_below}
 use Rattle.id_check.specs.declared.checked.Checked.{Checked}
 use Rattle.id_check.specs.Programs.{binder, kind, rows, tree}
@@ -104,11 +107,13 @@ closes_def y (Def x h k b) e other = by y other
 closes_def y _ e other = absurd (false≢true e)
 
 -- where none of the first n rows is `Program`, none of them holds the definition
-held_none : (R : List Row) (b n : ℕ) → is_def (at R b).node ≡ true → ((s : ℕ) → s < n → (at R s).node ≡ Program → ⊥) → held R b n ≡ false
+held_none : (R : List Row) (b n : ℕ) → is_def (at R b).node ≡ true → ((s : ℕ) → s < n → (at R s).node ≡ Program → ⊥)
+    → held R b n ≡ false
 held_none R b zero e other = refl
 held_none R b (suc n) e other =
     let before : held R b n ≡ false = held_none R b n e (λ s l. other s (omega arith)) in
-    let none : closes (at R n).node (at R b).node ≡ false = closes_def (at R n).node (at R b).node e (other n (omega arith)) in
+    let none : closes (at R n).node (at R b).node ≡ false =
+    closes_def (at R n).node (at R b).node e (other n (omega arith)) in
     both (held R b n) (closes (at R n).node (at R b).node) (around R n b) before none
   where
     both : (h c a : Bool) → h ≡ false → c ≡ false → (h || (c && a)) ≡ false
@@ -124,14 +129,18 @@ takes_def : (z : Node) → is_def z ≡ true → takes Program z ≡ true
 takes_def z e = e
 
 -- `main` is bound in the whole of the program
-binds_main : (R : List Row) (l n : ℕ) → IsLast R l → ((s : ℕ) → s < length R → (at R s).node ≡ Program → s + 1 ≡ length R) → n < l
+binds_main : (R : List Row) (l n : ℕ) → IsLast R l
+    → ((s : ℕ) → s < length R → (at R s).node ≡ Program → s + 1 ≡ length R) → n < l
     → defines_main (at R n).node ≡ true → binds R l 0 n ≡ true
 binds_main R l n last once less e =
     let named = main_name (at R n).node e in
-    let taken : takes (at R l).node (at R n).node ≡ true = subst (λ y. takes y (at R n).node ≡ true) (sym last.node) (takes_def (at R n).node named.1) in
+    let taken : takes (at R l).node (at R n).node ≡ true =
+    subst (λ y. takes y (at R n).node ≡ true) (sym last.node) (takes_def (at R n).node named.1) in
     let low : (at R l).first ≤ n = omega (arith, last.first) in
-    let free : held R n l ≡ false = held_none R n l named.1 (λ s k q. let end = once s (omega (arith, last.size)) q in omega (arith, last.size)) in
-    all (takes (at R l).node (at R n).node) (held R n l) (bound_name (at R n).node) (at R l).first taken low free named.0
+    let free : held R n l ≡ false =
+    held_none R n l named.1 (λ s k q. let end = once s (omega (arith, last.size)) q in omega (arith, last.size)) in
+    all (takes (at R l).node (at R n).node) (held R n l) (bound_name (at R n).node) (at R l).first taken low free
+    named.0
   where
     all : (t h : Bool) (o : Option ℕ) (f : ℕ) → t ≡ true → f ≤ n → h ≡ false → o ≡ Some 0
         → (((t && (nat_le f n && nat_lt n l)) && not h) && is_name 0 o) ≡ true
@@ -155,14 +164,19 @@ seconds_nil R s (suc n) i e l =
     let w = both_nil (seconds R s n) (second R s n (bound_name (at R n).node)) e in
     one w.1 (cases_lt i n) (seconds_nil R s n i w.0)
   where
-    one : second R s n (bound_name (at R n).node) ≡ [] → (i < n) ⊎ (n ≤ i) → (i < n → second R s i (bound_name (at R i).node) ≡ [])
+    one : second R s n (bound_name (at R n).node) ≡ [] → (i < n) ⊎ (n ≤ i)
+        → (i < n → second R s i (bound_name (at R i).node) ≡ [])
         → second R s i (bound_name (at R i).node) ≡ []
     one f (inl c) r = r c
-    one f (inr c) r = let same : i ≡ n = omega arith in subst (λ k. second R s k (bound_name (at R k).node) ≡ []) (sym same) f
+    one f (inr c) r =
+        let same : i ≡ n = omega arith in subst (λ k. second R s k (bound_name (at R k).node) ≡ []) (sym same) f
 
 -- what repeats an earlier one is told
-not_told : (R : List Row) (s b a : ℕ) (o : Option ℕ) → o ≡ Some 0 → binds R s 0 b ≡ true → binder_in R s 0 b ≡ Some a → second R s b o ≡ [] → ⊥
-not_told R s b a o name it first none = told (binder_in R s 0 b) first (sym (ap (λ t. if t then repeated R b (binder_in R s 0 b) else []) it) ∙ (ap (second R s b) (sym name) ∙ none))
+not_told : (R : List Row) (s b a : ℕ) (o : Option ℕ) → o ≡ Some 0 → binds R s 0 b ≡ true → binder_in R s 0 b ≡ Some a
+    → second R s b o ≡ [] → ⊥
+not_told R s b a o name it first none =
+    told (binder_in R s 0 b) first (sym (ap (λ t. if t then repeated R b (binder_in R s 0 b) else []) it)
+    ∙ (ap (second R s b) (sym name) ∙ none))
   where
     by : (o : Option ℕ) → o ≡ Some a → repeated R b o ≡ [] → ⊥
     by None e h = cc
@@ -176,15 +190,19 @@ not_later : (P : Checked) (m n : ℕ) → IsMain (rows P) m → IsMain (rows P) 
 not_later P m n h k less =
     let R = rows P in
     let t : IsTable R = table_of P in
-    let w : (l : ℕ) × IsLast R l = subst (λ (X : List Row). (l : ℕ) × IsLast X l) (sym P.tabled) (IsLast-rows_of (tree P)) in
+    let w : (l : ℕ) × IsLast R l =
+    subst (λ (X : List Row). (l : ℕ) × IsLast X l) (sym P.tabled) (IsLast-rows_of (tree P)) in
     let l = w.0 in
     let size = w.1.size in
     let high : n + 1 < length R = not_last R t is_def refl n k.within (main_name (at R n).node k.node).1 in
     let below : n < l = omega arith in
     let one : binds R l 0 m ≡ true = binds_main R l m w.1 t.ends_once (omega arith) h.node in
     let two : binds R l 0 n ≡ true = binds_main R l n w.1 t.ends_once below k.node in
-    let first = some_first (λ b. if binds R l 0 b then Some b else None) n m m less (ap (λ (q : Bool). if q then Some m else None) one) in
-    let none : duplicates R (length R) ≡ [] = (both_nil (duplicates R (length R)) (causes_below R (binder P) (kind P) (length R)) P.accepted).0 in
+    let first =
+    some_first (λ b. if binds R l 0 b then Some b
+    else None) n m m less (ap (λ (q : Bool). if q then Some m else None) one) in
+    let none : duplicates R (length R) ≡ [] =
+    (both_nil (duplicates R (length R)) (causes_below R (binder P) (kind P) (length R)) P.accepted).0 in
     not_told R l n first.0 (bound_name (at R n).node) (main_name (at R n).node k.node).0 two first.1
     (seconds_nil R l l n (dup_nil R (length R) l none (omega arith)) below)
 
@@ -274,13 +292,15 @@ same_params : (P Q : Checked) → AreAlike P Q → main_params P ≡ main_params
 same_params P Q a = λ i. params_at (a.rows i) (head_of (at (a.rows i) (a.main i)).node)
 
 same_wanted : (P Q : Checked) → AreAlike P Q → wanted P ≡ wanted Q
-same_wanted P Q a = map_same (main_params P) ∙ ap (λ ps. map (λ b. wanted_of Q (at (rows Q) b).node) ps) (same_params P Q a)
+same_wanted P Q a =
+    map_same (main_params P) ∙ ap (λ ps. map (λ b. wanted_of Q (at (rows Q) b).node) ps) (same_params P Q a)
   where
     one : (z : Node) → wanted_of P z ≡ wanted_of Q z
     one (Param x k) = λ i. record { name = get_or (a.names i) x []; kind = k }
     one _ = refl
 
-    map_same : (ps : List ℕ) → map (λ b. wanted_of P (at (rows P) b).node) ps ≡ map (λ b. wanted_of Q (at (rows Q) b).node) ps
+    map_same : (ps : List ℕ)
+        → map (λ b. wanted_of P (at (rows P) b).node) ps ≡ map (λ b. wanted_of Q (at (rows Q) b).node) ps
     map_same [] = refl
     map_same (b ∷ ps) =
         let here : wanted_of P (at (rows P) b).node ≡ wanted_of Q (at (rows Q) b).node =
@@ -288,7 +308,8 @@ same_wanted P Q a = map_same (main_params P) ∙ ap (λ ps. map (λ b. wanted_of
         let rest = map_same ps in
         λ i. here i ∷ rest i
 
-pub inputs_to : (P Q : Checked) → AreAlike P Q → (words : List (List ℕ)) (vs : List Constant) → AreInputsOf P words vs → AreInputsOf Q words vs
+pub inputs_to : (P Q : Checked) → AreAlike P Q → (words : List (List ℕ)) (vs : List Constant) → AreInputsOf P words vs
+    → AreInputsOf Q words vs
 inputs_to P Q a words vs h = let same : wanted P ≡ wanted Q = same_wanted P Q a in record {
   all_taken = subst (λ (ps : List Wanted). first_cause ps [] 0 words ≡ None) same h.all_taken;
   enough = subst (λ (ps : List Wanted). length vs ≡ length ps) same h.enough;
@@ -296,7 +317,8 @@ inputs_to P Q a words vs h = let same : wanted P ≡ wanted Q = same_wanted P Q 
 }
 
 -- lists as long as each other with the same members are one
-pub same_list : (vs us : List Constant) → length vs ≡ length us → ((n : ℕ) → n < length vs → slice_get vs n ≡ slice_get us n) → vs ≡ us
+pub same_list : (vs us : List Constant) → length vs ≡ length us
+    → ((n : ℕ) → n < length vs → slice_get vs n ≡ slice_get us n) → vs ≡ us
 same_list [] [] e h = refl
 same_list [] (u ∷ us) e h = absurd (omega (arith, e))
 same_list (v ∷ vs) [] e h = absurd (omega (arith, e))
@@ -308,14 +330,16 @@ same_list (v ∷ vs) (u ∷ us) e h =
     same_some : (v u : Constant) → Some v ≡ Some u → v ≡ u
     same_some v u q = cc
 
-pub inputs_same : (P : Checked) (words : List (List ℕ)) (vs us : List Constant) → AreInputsOf P words vs → AreInputsOf P words us → vs ≡ us
+pub inputs_same : (P : Checked) (words : List (List ℕ)) (vs us : List Constant) → AreInputsOf P words vs
+    → AreInputsOf P words us → vs ≡ us
 inputs_same P words vs us h k =
     let long : length vs ≡ length us = h.enough ∙ sym k.enough in
     same_list vs us long (λ n l. h.values n l ∙ sym (k.values n (subst (λ m. n < m) long l)))
 
 -- with inputs that the same words give them they mean the same
-pub MeanTheSame-text : (text : List ℕ) (words : List (List ℕ)) (P Q : Checked) (vs us : List Constant) → IsProgramOf text P → IsProgramOf text Q
-    → AreInputsOf P words vs → AreInputsOf Q words us → MeanTheSame (source P vs) (source Q us)
+pub MeanTheSame-text : (text : List ℕ) (words : List (List ℕ)) (P Q : Checked) (vs us : List Constant)
+    → IsProgramOf text P → IsProgramOf text Q → AreInputsOf P words vs → AreInputsOf Q words us
+    → MeanTheSame (source P vs) (source Q us)
 MeanTheSame-text text words P Q vs us h k given there =
     let alike : AreAlike P Q = AreAlike-text text P Q h k in
     let same : vs ≡ us = inputs_same Q words vs us (inputs_to P Q alike words vs given) there in
@@ -325,7 +349,8 @@ pub OneProgram-text : OneProgram
 OneProgram-text = record {
   alike = AreAlike-text;
   given = λ text words P Q vs h k i. inputs_to P Q (AreAlike-text text P Q h k) words vs i;
-  inputs = λ text words P Q vs us h k i j. inputs_same Q words vs us (inputs_to P Q (AreAlike-text text P Q h k) words vs i) j;
+  inputs = λ text words P Q vs us h k i j. inputs_same Q words vs us
+      (inputs_to P Q (AreAlike-text text P Q h k) words vs i) j;
   graphs = λ text P Q g h k.
       let a : AreAlike P Q = AreAlike-text text P Q h k in
       let b : AreAlike Q P = AreAlike-sym P Q a in

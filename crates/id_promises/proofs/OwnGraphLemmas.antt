@@ -1,5 +1,6 @@
 -- Lemmas on specs/OneProgram.antt: programs alike have one graph of their own.
-use Rattle.std.proofs.Common.{◌≡◌, ◌+◌, ◌<◌, ◌≤◌, ◌⊎◌, inl, inr, ℕ, zero, suc, List, [], ◌∷◌, ◌++◌, length, map, refl, sym, ap, subst, ◌∙◌}
+use Rattle.std.proofs.Common.{◌≡◌, ◌+◌, ◌<◌, ◌≤◌, ◌⊎◌, inl, inr, ℕ, zero, suc, List, [], ◌∷◌, ◌++◌, length, map, refl}
+use Rattle.std.proofs.Common.{sym, ap, subst, ◌∙◌}
 use Rattle.std.specs.Prelude.{◌==◌, if◌then◌else◌, nat_eq, not}
 use Rattle.std.proofs.lemmas.Bool.{cases_lt}
 use Rattle.id_table.specs.declared.row.Row.{Row}
@@ -20,7 +21,8 @@ use Rattle.id_build.specs.Schemas.{Numbered}
 use Rattle.id_build.proofs.OneOwnLemmas.{one_own}
 use Rattle.id_promises.specs.OneProgram.{AreAlike}
 use Rattle.id_promises.proofs.SameFactsLemmas.{AreAlike-sym}
-use Rattle.id_promises.proofs.SameGraphsLemmas.{Numbered-alike, all_heads_same, beyond, block_of_same, end_same, feeds_same, loop_heads_same}
+use Rattle.id_promises.proofs.SameGraphsLemmas.{Numbered-alike, all_heads_same, beyond, block_of_same, end_same}
+use Rattle.id_promises.proofs.SameGraphsLemmas.{feeds_same, loop_heads_same}
 use Rattle.id_promises.proofs.SameGraphsLemmas.{made_same, node_same, place_same}
 
 module _ (P Q : Checked) (a : AreAlike P Q) where
@@ -46,7 +48,8 @@ module _ (P Q : Checked) (a : AreAlike P Q) where
 
   head_same : (n p : ℕ) → pieces.made_of P n p Head ≡ pieces.made_of Q n p Head
   head_same n p = λ j. pieces.piece (Plain (op.Merge port.Signal)) p
-      ∷ pieces.piece (Plain (op.Back (pieces.port_of (pieces.result_of (at (a.rows j) (end_same P Q a n j)).node)))) p ∷ []
+      ∷ pieces.piece (Plain (op.Back (pieces.port_of (pieces.result_of (at (a.rows j) (end_same P Q a n j)).node)))) p
+      ∷ []
 
   made_all : (n : ℕ) → made P n ≡ made Q n
   made_all n = by (cases_lt n (length (rows P)))

@@ -25,7 +25,8 @@ use Rattle.id_promises.proofs.LastRoundLemmas.{IsFinite, last_round}
 use Rattle.id_promises.proofs.OneRoundLemmas.{facts_there, one_list_of}
 
 -- a source of which a run is quiet
-module _ (rest : RestIsTheEnd) (complete : QuietIsComplete) (S : Source) (inputs : AreInputs S.checked S.inputs) (r : RunOf S) (still : IsQuiet (end_of S r)) where
+module _ (rest : RestIsTheEnd) (complete : QuietIsComplete) (S : Source) (inputs : AreInputs S.checked S.inputs)
+    (r : RunOf S) (still : IsQuiet (end_of S r)) where
   done : IsComplete S r.graph (end_of S r)
   done = complete S r.graph r.count r.positions inputs r.schemas still
 
@@ -54,15 +55,18 @@ same_next : (S : Source) (n : ℕ) (fs gs : List Fact) → HasAll S n → AreFac
 same_next S n fs gs all h k =
     one_list_of S n (suc n) fs gs h k (λ f r. inl r) (λ f r. all f (record { round = suc n; there = r }))
 
-module _ (rest : RestIsTheEnd) (complete : QuietIsComplete) (text : List ℕ) (words : List (List ℕ)) (count steps : ℕ) (t b : Bool) (old new : SinkView)
+module _ (rest : RestIsTheEnd) (complete : QuietIsComplete) (text : List ℕ) (words : List (List ℕ)) (count steps : ℕ)
+    (t b : Bool) (old new : SinkView)
     (result : Result (Unit {0}) PrintError) (h : HasRun text words count t steps b old new 0 result) where
   last_of_program : (n : ℕ) × HasAll (source h.program h.inputs) n × AddsNone text words n
   last_of_program =
       let S : Source = source h.program h.inputs in
       let at = (h.run).runs ((h.run).order).0 ((h.run).order).1 in
-      let r : RunOf S = record { graph = h.graph; schemas = schemas_of h.own; count = count; positions = at.positions } in
+      let r : RunOf S =
+      record { graph = h.graph; schemas = schemas_of h.own; count = count; positions = at.positions } in
       let end = at.end in
-      let q : IsQuietly h.graph (h.machine).world text b h.output = quietly h.graph count steps (h.machine).world text b 0 h.output refl h.ends in
+      let q : IsQuietly h.graph (h.machine).world text b h.output =
+      quietly h.graph count steps (h.machine).world text b 0 h.output refl h.ends in
       let still : IsQuiet (end_of S r) = record {
         empty = none_left end.flight (q.still).empty;
         went = subst (λ (es : List State). All (λ e. AllWent e.events) es) (sym end.elements) (q.still).went;

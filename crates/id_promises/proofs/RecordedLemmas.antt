@@ -50,7 +50,8 @@ each_event P vs e old new v a = elim (Among-either v vs (e ∷ []) a) [
 record_after : (g : Parts) (n : ℕ) (s : State) (m : Message) → IsRecord n s → IsRecord n (state_after g n s m)
 record_after g n s m h = record {
   own = each_event (λ (v : EventView). v.element ≡ n) s.events (event_of g n s m) h.own refl;
-  within = each_event (λ (v : EventView). v.stamp ≤ next_stamp s m) s.events (event_of g n s m) (λ v a. let w = h.within v a in omega arith) (omega arith);
+  within = each_event (λ (v : EventView). v.stamp ≤ next_stamp s m) s.events (event_of g n s m) (λ v a. let w =
+      h.within v a in omega arith) (omega arith);
   once = λ v u a b same. elim (Among-either v s.events (event_of g n s m ∷ []) a) [
     | inl i ↦ elim (Among-either u s.events (event_of g n s m ∷ []) b) [
       | inl j ↦ h.once v u i j same
@@ -83,10 +84,16 @@ replicated (suc count) (suc n) s h = replicated count n s h
 
 records_first : (count : ℕ) → AreRecords (replicate count fresh)
 records_first count n s at =
-    subst (IsRecord n) (sym (replicated count n s at)) (record { own = λ v a. absurd a; within = λ v a. absurd a; once = λ v u a b. absurd a })
+    subst (IsRecord n) (sym (replicated count n s at)) (record {
+      own = λ v a. absurd a;
+      within = λ v a. absurd a;
+      once =
+          λ v u a b. absurd a;
+    })
 
 module _ (g : Parts) (count : ℕ) where
-  records_led : {w x : World} {es : List EventView} → LeadTo g count w es x → AreRecords w.elements → AreRecords x.elements
+  records_led : {w x : World} {es : List EventView} → LeadTo g count w es x → AreRecords w.elements
+      → AreRecords x.elements
   records_led no_more h = h
   records_led (follow {w = w} {v = v} f l) h = records_led l (λ n s at.
       let k = route_of v.message.payload count in
@@ -99,14 +106,15 @@ module _ (g : Parts) (count : ℕ) where
         | inr there ↦ h n s there
       ])
 
-  pub records : (vs : List Constant) {x : World} {es : List EventView} → LeadTo g count (start g vs count) es x → AreRecords x.elements
+  pub records : (vs : List Constant) {x : World} {es : List EventView} → LeadTo g count (start g vs count) es x
+      → AreRecords x.elements
   records vs l = records_led l (records_first count)
 
 -- ---- moments
 
 -- what shows a fault was one
-was_fault : (g : Parts) (path : Tag → Path) (name : Structure → Site) (w : Step) (f : SourceFault) → fault_of g path name w ≡ Some f
-    → (x : Fault) × (w ≡ steps.Fault x)
+was_fault : (g : Parts) (path : Tag → Path) (name : Structure → Site) (w : Step) (f : SourceFault)
+    → fault_of g path name w ≡ Some f → (x : Fault) × (w ≡ steps.Fault x)
 was_fault g path name steps.Went f h = cc
 was_fault g path name (steps.Fault x) f h = (x, refl)
 was_fault g path name steps.Stuck f h = cc
@@ -126,11 +134,13 @@ module _ (ss : List State) (h : AreRecords ss) where
       record { number = at.0; state = f.0; at = at.1; among = f.2 }
 
   -- two events of which none is before the other are one
-  one_moment : (v u : EventView) → Among v (events_of ss) → Among u (events_of ss) → by_moment v u ≢ Less → by_moment u v ≢ Less → v ≡ u
+  one_moment : (v u : EventView) → Among v (events_of ss) → Among u (events_of ss) → by_moment v u ≢ Less
+      → by_moment u v ≢ Less → v ≡ u
   one_moment v u a b not other =
       let x = is_of v a in
       let y = is_of u b in
-      let stamps : v.stamp ≡ u.stamp = equal v.stamp u.stamp (λ l. not (earlier_stamp v u l)) (λ l. other (earlier_stamp u v l)) in
+      let stamps : v.stamp ≡ u.stamp =
+      equal v.stamp u.stamp (λ l. not (earlier_stamp v u l)) (λ l. other (earlier_stamp u v l)) in
       let elements : v.element ≡ u.element = equal v.element u.element
       (λ l. not (earlier_element v u (omega arith) l)) (λ l. other (earlier_element u v (omega arith) l)) in
       let r = h x.number x.state x.at in
@@ -152,7 +162,8 @@ module _ (ss : List State) (h : AreRecords ss) where
       let fx = was_fault g path name x.event.step f x.fault in
       let fy = was_fault g path name y.event.step e y.fault in
       let one : x.event ≡ y.event =
-      one_moment x.event y.event x.among y.among (y.first x.event fx.0 x.among fx.1) (x.first y.event fy.0 y.among fy.1) in
+      one_moment x.event y.event x.among y.among (y.first x.event fx.0 x.among fx.1)
+      (x.first y.event fy.0 y.among fy.1) in
       some_same f e (sym x.fault ∙ ap (λ (v : EventView). fault_of g path name v.step) one ∙ y.fault)
 
 -- a quiet machine has no fault
@@ -165,8 +176,11 @@ quiet_no_fault g w f q h =
     let state_is = get_or_from_slice_get w.elements at.0 flat.0 flat.0 at.1 in
     let event_is = get_or_from_slice_get (flat.0).events in_state.0 h.event h.event in_state.1 in
     let went_there = q.went at.0 flat.0 (slice_get_within w.elements at.0 flat.0 at.1) in
-    let went = subst (λ (s : State). (k : ℕ) (d : EventView) → k < length s.events → (get_or s.events k d).step ≡ steps.Went) state_is went_there in
+    let went =
+    subst (λ (s : State). (k : ℕ) (d : EventView) → k < length s.events
+    → (get_or s.events k d).step ≡ steps.Went) state_is went_there in
     let here : h.event.step ≡ steps.Went =
-    sym (ap (λ (v : EventView). v.step) event_is) ∙ went in_state.0 h.event (slice_get_within (flat.0).events in_state.0 h.event in_state.1) in
+    sym (ap (λ (v : EventView). v.step) event_is)
+    ∙ went in_state.0 h.event (slice_get_within (flat.0).events in_state.0 h.event in_state.1) in
     let both : steps.Went ≡ steps.Fault was.0 = sym here ∙ was.1 in
     cc

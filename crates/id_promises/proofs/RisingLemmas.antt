@@ -1,6 +1,8 @@
--- Lists that rise by an order by which nothing is before itself: those with the same members are one, and facts, values,
+-- Lists that rise by an order by which nothing is before itself: those with the same members are one, and facts,
+-- values,
 -- names and lines have such orders.
-use Rattle.std.proofs.Common.{◌≡◌, ◌⊎◌, inl, inr, ℕ, ℤ, ◌<ℤ◌, true, false, List, [], ◌∷◌, Ordering, Less, Equal, refl, sym, ap, subst, ◌∙◌, arith}
+use Rattle.std.proofs.Common.{◌≡◌, ◌⊎◌, inl, inr, ℕ, ℤ, ◌<ℤ◌, true, false, List, [], ◌∷◌, Ordering, Less, Equal, refl}
+use Rattle.std.proofs.Common.{sym, ap, subst, ◌∙◌, arith}
 use Rattle.std.specs.Prelude.{pos}
 use Rattle.std.proofs.lemmas.Cmp.{tied_itself}
 use Rattle.std.proofs.lemmas.Int.{ints}
@@ -13,7 +15,8 @@ use Rattle.id_source.specs.declared.Put.{Put}
 use Rattle.id_source.specs.declared.Site.{Site}
 use Rattle.id_source.specs.declared.SourceValue.{SourceValue}
 use Rattle.id_source.specs.declared.SourceValue.TheVariants.{Int, Bool, Name}
-use Rattle.id_source.specs.Orders.{AskBefore, CellBefore, FactBefore, FactsRise, LikeBefore, PutBefore, Rises, ShapeBefore, SiteBefore, ValueBefore, kind_of}
+use Rattle.id_source.specs.Orders.{AskBefore, CellBefore, FactBefore, FactsRise, LikeBefore, PutBefore, Rises}
+use Rattle.id_source.specs.Orders.{ShapeBefore, SiteBefore, ValueBefore, kind_of}
 use Rattle.id_print.proofs.NamesLemmas.{Tells, asks_told}
 
 -- nothing is before itself, and what is before something is before all that is behind that
@@ -24,7 +27,8 @@ pub record IsStrict {A : Type 0} (B : A → A → Type 0) : Type 0 where
 -- an order that a comparison tells is so
 pub IsStrict-told : {A : Type 0} (c : A → A → Ordering) (B C : A → A → Type 0) → Tells c B C → IsStrict B
 IsStrict-told c B C t = record {
-  not_itself = λ x h. let less : c x x ≡ Less = t.less x x h in let tied : c x x ≡ Equal = tied_itself t.total x in absurd cc;
+  not_itself =
+      λ x h. let less : c x x ≡ Less = t.less x x h in let tied : c x x ≡ Equal = tied_itself t.total x in absurd cc;
   trans = λ x y z h k. t.before x z (t.total.trans x y z (t.less x y h) (t.less y z k));
 }
 
@@ -41,21 +45,24 @@ module _ {A : Type 0} (B : A → A → Type 0) (s : IsStrict B) where
   rest_rises x [] up = tt
   rest_rises x (y ∷ xs) up = up.1
 
-  same_first : (x y : A) (xs ys : List A) → Rises B (x ∷ xs) → Rises B (y ∷ ys) → Among x (y ∷ ys) → Among y (x ∷ xs) → x ≡ y
+  same_first : (x y : A) (xs ys : List A) → Rises B (x ∷ xs) → Rises B (y ∷ ys) → Among x (y ∷ ys) → Among y (x ∷ xs)
+      → x ≡ y
   same_first x y xs ys up high (inl e) k = e
   same_first x y xs ys up high (inr h) (inl e) = sym e
   same_first x y xs ys up high (inr h) (inr k) =
       absurd (s.not_itself x (s.trans x y x (first_before x xs up y k) (first_before y ys high x h)))
 
   -- what is among one list is behind the first of the other, where the firsts are one
-  pub behind : (x y : A) (xs ys : List A) → x ≡ y → Rises B (x ∷ xs) → (z : A) → Among z xs → Among z (y ∷ ys) → Among z ys
+  pub behind : (x y : A) (xs ys : List A) → x ≡ y → Rises B (x ∷ xs) → (z : A) → Among z xs → Among z (y ∷ ys)
+      → Among z ys
   behind x y xs ys same up z h (inl e) =
       let P : A → Type 0 = λ w. Among w xs in
       absurd (s.not_itself x (first_before x xs up x (subst P (e ∙ sym same) h)))
   behind x y xs ys same up z h (inr k) = k
 
   -- two lists that rise and have the same members are one
-  pub one_list : (xs ys : List A) → Rises B xs → Rises B ys → ((x : A) → Among x xs → Among x ys) → ((x : A) → Among x ys → Among x xs) → xs ≡ ys
+  pub one_list : (xs ys : List A) → Rises B xs → Rises B ys → ((x : A) → Among x xs → Among x ys)
+      → ((x : A) → Among x ys → Among x xs) → xs ≡ ys
   one_list [] [] up high to from = refl
   one_list [] (y ∷ ys) up high to from = absurd (from y (inl refl))
   one_list (x ∷ xs) [] up high to from = absurd (to x (inl refl))
@@ -88,10 +95,12 @@ module _ {A K : Type 0} (f : A → K) (B : K → K → Type 0) (C : A → A → 
 
 -- what is so of keys is so of what has them
 IsStrict-on : {A K : Type 0} (f : A → K) (B : K → K → Type 0) → IsStrict B → IsStrict (λ (x y : A). B (f x) (f y))
-IsStrict-on f B s = record { not_itself = λ x h. s.not_itself (f x) h; trans = λ x y z h k. s.trans (f x) (f y) (f z) h k }
+IsStrict-on f B s =
+    record { not_itself = λ x h. s.not_itself (f x) h; trans = λ x y z h k. s.trans (f x) (f y) (f z) h k }
 
 -- an order that is as another
-IsStrict-as : {A : Type 0} (B C : A → A → Type 0) → IsStrict C → ((x y : A) → B x y → C x y) → ((x y : A) → C x y → B x y) → IsStrict B
+IsStrict-as : {A : Type 0} (B C : A → A → Type 0) → IsStrict C → ((x y : A) → B x y → C x y)
+    → ((x y : A) → C x y → B x y) → IsStrict B
 IsStrict-as B C s to from = record {
   not_itself = λ x h. s.not_itself x (to x x h);
   trans = λ x y z h k. from x z (s.trans x y z (to x y h) (to y z k));
@@ -177,14 +186,16 @@ abbrev StoreBefore : Put → Put → Type 0
 StoreBefore p q = SiteBefore p.store q.store ⊎ ((p.store ≡ q.store) × ValueBefore p.value q.value)
 
 store_strict : IsStrict StoreBefore
-store_strict = IsStrict-then (λ p. p.store) SiteBefore _ site_strict (IsStrict-on (λ p. p.value) ValueBefore value_strict)
+store_strict =
+    IsStrict-then (λ p. p.store) SiteBefore _ site_strict (IsStrict-on (λ p. p.value) ValueBefore value_strict)
 
 PutThen : Put → Put → Type 0
 PutThen p q = PlaceBefore (put_place p) (put_place q) ⊎ ((put_place p ≡ put_place q) × StoreBefore p q)
 
 put_strict : IsStrict PutBefore
 unfolding PutThen PlaceBefore
-put_strict = IsStrict-as PutBefore PutThen (IsStrict-then put_place PlaceBefore StoreBefore place_strict store_strict) to from
+put_strict =
+    IsStrict-as PutBefore PutThen (IsStrict-then put_place PlaceBefore StoreBefore place_strict store_strict) to from
   where
     to : (p q : Put) → PutBefore p q → PutThen p q
     to p q (inl h) = inl h
@@ -196,7 +207,9 @@ put_strict = IsStrict-as PutBefore PutThen (IsStrict-then put_place PlaceBefore 
 
 ask_strict : IsStrict AskBefore
 unfolding PlaceBefore
-ask_strict = IsStrict-then (λ a. a.fetch) SiteBefore _ site_strict (IsStrict-on (λ a. (a.name, a.index)) PlaceBefore place_strict)
+ask_strict =
+    IsStrict-then (λ a. a.fetch) SiteBefore _ site_strict
+    (IsStrict-on (λ a. (a.name, a.index)) PlaceBefore place_strict)
 
 -- ---- facts
 
@@ -220,12 +233,14 @@ had_strict = IsStrict-then (λ x. x.0) SiteBefore _ site_strict (IsStrict-on (λ
 had : Path → ℕ → SourceValue → Had
 had p d v = (point p d, v)
 
-had_to : (p q : Path) (d e : ℕ) (v w : SourceValue) → LikeBefore (fact.Has p d v) (fact.Has q e w) → HadThen (had p d v) (had q e w)
+had_to : (p q : Path) (d e : ℕ) (v w : SourceValue) → LikeBefore (fact.Has p d v) (fact.Has q e w)
+    → HadThen (had p d v) (had q e w)
 unfolding HadThen had
 had_to p q d e v w (inl h) = inl h
 had_to p q d e v w (inr h) = inr (point_site h.0 h.1, h.2)
 
-had_from : (p q : Path) (d e : ℕ) (v w : SourceValue) → HadThen (had p d v) (had q e w) → LikeBefore (fact.Has p d v) (fact.Has q e w)
+had_from : (p q : Path) (d e : ℕ) (v w : SourceValue) → HadThen (had p d v) (had q e w)
+    → LikeBefore (fact.Has p d v) (fact.Has q e w)
 unfolding HadThen had
 had_from p q d e v w (inl h) = inl h
 had_from p q d e v w (inr h) = inr (ap (λ (s : Site). s.path) h.0, ap (λ (s : Site). s.place) h.0, h.1)
@@ -241,7 +256,8 @@ like_trans : (f g k : Fact) → LikeBefore f g → LikeBefore g k → LikeBefore
 like_trans (fact.On p d) (fact.On q e) (fact.On r c) a b =
     site_strict.trans (point p d) (point q e) (point r c) a b
 like_trans (fact.Has p d v) (fact.Has q e w) (fact.Has r c u) a b =
-    had_from p r d c v u (had_strict.trans (had p d v) (had q e w) (had r c u) (had_to p q d e v w a) (had_to q r e c w u b))
+    had_from p r d c v u
+    (had_strict.trans (had p d v) (had q e w) (had r c u) (had_to p q d e v w a) (had_to q r e c w u b))
 like_trans (fact.Shape s) (fact.Shape t) (fact.Shape u) a b = shape_strict.trans s t u a b
 like_trans (fact.Put p) (fact.Put q) (fact.Put r) a b = put_strict.trans p q r a b
 like_trans (fact.Ask x) (fact.Ask y) (fact.Ask z) a b = ask_strict.trans x y z a b

@@ -1,5 +1,6 @@
 -- Lemmas on specs/OneProgram.antt: what follows in the source of a program follows in that of a program alike.
-use Rattle.std.proofs.Common.{◌≡◌, ◌<◌, inl, inr, ℕ, zero, suc, Bool, true, false, List, [], ◌∷◌, length, Option, Some, None, sym, subst, ◌∙◌}
+use Rattle.std.proofs.Common.{◌≡◌, ◌<◌, inl, inr, ℕ, zero, suc, Bool, true, false, List, [], ◌∷◌, length, Option, Some}
+use Rattle.std.proofs.Common.{None, sym, subst, ◌∙◌}
 use Rattle.std.specs.Prelude.{◌+ℤ◌, pos, slice_get}
 use Rattle.id_value.specs.declared.Constant.{Constant}
 use Rattle.id_value.specs.declared.Constant.TheVariants as constant
@@ -24,7 +25,8 @@ use Rattle.id_source.specs.declared.SourceFault.TheVariants.{Operator}
 use Rattle.id_source.specs.declared.SourceValue.{SourceValue}
 use Rattle.id_source.specs.declared.SourceValue.TheVariants as value
 use Rattle.id_source.specs.Sources.{IsInput, body_of, head_of, main_body, main_params, source, value_of}
-use Rattle.id_source.specs.Facts.{BodyBinds, BodyStores, Chooses, FaultRule, ForStands, GoesOn, LoopStands, NextStands, Rule, StoreStands, ask, below, outermost, put, shape, site, without}
+use Rattle.id_source.specs.Facts.{BodyBinds, BodyStores, Chooses, FaultRule, ForStands, GoesOn, LoopStands, NextStands}
+use Rattle.id_source.specs.Facts.{Rule, StoreStands, ask, below, outermost, put, shape, site, without}
 use Rattle.id_source.specs.Facts.Chooses.{then_arm, else_arm}
 use Rattle.id_source.specs.Facts.GoesOn.{by_predicate, by_bounds, by_index}
 use Rattle.id_source.specs.Facts.Rule.{main_on, param_has, literal_has, operand_on, left_on, right_on, unary_has}
@@ -147,23 +149,28 @@ module _ (P Q : Checked) (vs : List Constant) (alike : AreAlike P Q) where
   same_start : place P (main_body P) ≡ place Q (main_body Q)
   same_start = λ i. (at (same_rows i) (same_body i)).place
 
-  goes : {n w : ℕ} {p : Path} {k : ℕ} {b : Bool} {fs : List Fact} → GoesOn (source P vs) n w p k b fs → GoesOn (source Q vs) n w p k b fs
+  goes : {n w : ℕ} {p : Path} {k : ℕ} {b : Bool} {fs : List Fact} → GoesOn (source P vs) n w p k b fs
+      → GoesOn (source Q vs) n w p k b fs
   goes {n} {w} {p} {b = c} (by_predicate {t = t} k s) =
-      subst (λ R. GoesOn (source Q vs) n w p k c (Has (below p (spot R n) k) (spot R t) (value_of (constant.Bool c)) ∷ [])) (sym same_rows)
+      subst (λ R. GoesOn (source Q vs) n w p k c (Has (below p (spot R n) k) (spot R t) (value_of (constant.Bool c))
+      ∷ [])) (sym same_rows)
       (by_predicate k (loops s))
   goes {n} {w} {p} {b = c} (by_bounds {a = a} {b = b} {lo = lo} {hi = hi} s e) =
-      subst (λ R. GoesOn (source Q vs) n w p 0 c (On p (spot R n) ∷ Has p (spot R a) (value.Int lo) ∷ Has p (spot R b) (value.Int hi) ∷ [])) (sym same_rows)
+      subst (λ R. GoesOn (source Q vs) n w p 0 c (On p (spot R n) ∷ Has p (spot R a) (value.Int lo)
+      ∷ Has p (spot R b) (value.Int hi) ∷ [])) (sym same_rows)
       (by_bounds (counts s) e)
   goes {n} {w} {p} {b = c} (by_index {x = x} {b = b} {i = i} {hi = hi} k s e) =
-      subst (λ R. GoesOn (source Q vs) n w p (suc k) c (Has (below p (spot R n) k) (spot R x) (value.Int i) ∷ Has p (spot R b) (value.Int hi) ∷ [])) (sym same_rows)
+      subst (λ R. GoesOn (source Q vs) n w p (suc k) c (Has (below p (spot R n) k) (spot R x) (value.Int i)
+      ∷ Has p (spot R b) (value.Int hi) ∷ [])) (sym same_rows)
       (by_index k (counts s) e)
 
   -- what follows of places in the rows of the one follows of those in the rows of the other
-  at_rows : (F : List Row → List Fact) (G : List Row → Fact) → Rule (source Q vs) (F (rows Q)) (G (rows Q)) → Rule (source Q vs) (F (rows P)) (G (rows P))
+  at_rows : (F : List Row → List Fact) (G : List Row → Fact) → Rule (source Q vs) (F (rows Q)) (G (rows Q))
+      → Rule (source Q vs) (F (rows P)) (G (rows P))
   at_rows F G h = subst (λ R. Rule (source Q vs) (F R) (G R)) (sym same_rows) h
 
-  fault_rows : (F : List Row → List Fact) (G : List Row → SourceFault) → FaultRule (source Q vs) (F (rows Q)) (G (rows Q))
-      → FaultRule (source Q vs) (F (rows P)) (G (rows P))
+  fault_rows : (F : List Row → List Fact) (G : List Row → SourceFault)
+      → FaultRule (source Q vs) (F (rows Q)) (G (rows Q)) → FaultRule (source Q vs) (F (rows P)) (G (rows P))
   fault_rows F G h = subst (λ R. FaultRule (source Q vs) (F R) (G R)) (sym same_rows) h
 
   -- ---- what follows
@@ -181,47 +188,63 @@ module _ (P Q : Checked) (vs : List Constant) (alike : AreAlike P Q) where
   follows (right_on {n = n} {b = b} {p = p} x') =
       at_rows (λ R. On p (spot R n) ∷ []) (λ R. On p (spot R b)) (right_on (stands x'))
   follows (unary_has {n = n} {a = a} {p = p} {x = x} c x' y') =
-      at_rows (λ R. On p (spot R n) ∷ Has p (spot R a) (value_of c) ∷ []) (λ R. Has p (spot R n) (value_of x)) (unary_has c (stands x') y')
+      at_rows (λ R. On p (spot R n) ∷ Has p (spot R a) (value_of c) ∷ []) (λ R. Has p (spot R n) (value_of x))
+      (unary_has c (stands x') y')
   follows (binary_has {n = n} {a = a} {b = b} {p = p} {x = x} c d x' y') =
-      at_rows (λ R. On p (spot R n) ∷ Has p (spot R a) (value_of c) ∷ Has p (spot R b) (value_of d) ∷ []) (λ R. Has p (spot R n) (value_of x)) (binary_has c d (stands x') y')
+      at_rows (λ R. On p (spot R n) ∷ Has p (spot R a) (value_of c) ∷ Has p (spot R b) (value_of d) ∷ [])
+      (λ R. Has p (spot R n) (value_of x)) (binary_has c d (stands x') y')
   follows (name_has {n = n} {b = b} {p = p} {v = v} x' y') =
-      at_rows (λ R. On p (spot R n) ∷ Has (without (loops_between R n b) p) (spot R b) v ∷ []) (λ R. Has p (spot R n) v) (name_has (stands x') (bound x'.within y'))
+      at_rows (λ R. On p (spot R n) ∷ Has (without (loops_between R n b) p) (spot R b) v ∷ []) (λ R. Has p (spot R n) v)
+      (name_has (stands x') (bound x'.within y'))
   follows (test_on {n = n} {t = t} {p = p} x') =
       at_rows (λ R. On p (spot R n) ∷ []) (λ R. On p (spot R t)) (test_on (chooses x'))
   follows (arm_on {n = n} {t = t} {a = a} {b = b} {p = p} x') =
-      at_rows (λ R. On p (spot R n) ∷ Has p (spot R t) (value_of (constant.Bool b)) ∷ []) (λ R. On p (spot R a)) (arm_on (chooses x'))
+      at_rows (λ R. On p (spot R n) ∷ Has p (spot R t) (value_of (constant.Bool b)) ∷ []) (λ R. On p (spot R a))
+      (arm_on (chooses x'))
   follows (conditional_has {n = n} {t = t} {a = a} {b = b} {p = p} {v = v} x') =
-      at_rows (λ R. On p (spot R n) ∷ Has p (spot R t) (value_of (constant.Bool b)) ∷ Has p (spot R a) v ∷ []) (λ R. Has p (spot R n) v) (conditional_has (chooses x'))
+      at_rows (λ R. On p (spot R n) ∷ Has p (spot R t) (value_of (constant.Bool b)) ∷ Has p (spot R a) v ∷ [])
+      (λ R. Has p (spot R n) v) (conditional_has (chooses x'))
   follows (argument_on {n = n} {v = v} {p = p} x' y') =
       at_rows (λ R. On p (spot R n) ∷ []) (λ R. On p (spot R v)) (argument_on (stands x') (stands y'))
   follows (callee_on {n = n} {b = b} {p = p} x' y' z') =
-      at_rows (λ R. On p (spot R n) ∷ []) (λ R. On (below p (spot R n) 0) (spot R b)) (callee_on (stands x') (called x' y') (stands z'))
+      at_rows (λ R. On p (spot R n) ∷ []) (λ R. On (below p (spot R n) 0) (spot R b))
+      (callee_on (stands x') (called x' y') (stands z'))
   follows (argument_has {n = n} {h = h} {i = i} {v = v} {q = q} {p = p} {u = u} x' y' z' u' v') =
-      at_rows (λ R. On p (spot R n) ∷ Has p (spot R v) u ∷ []) (λ R. Has (below p (spot R n) 0) (spot R q) u) (argument_has (stands x') (stands y') (called x' z') (stands u') (subst (λ (R : List Row). slice_get (params_at R h) i ≡ Some q) same_rows v'))
+      at_rows (λ R. On p (spot R n) ∷ Has p (spot R v) u ∷ []) (λ R. Has (below p (spot R n) 0) (spot R q) u)
+      (argument_has (stands x') (stands y') (called x' z') (stands u')
+      (subst (λ (R : List Row). slice_get (params_at R h) i ≡ Some q) same_rows v'))
   follows (call_has {n = n} {b = b} {p = p} {u = u} x' y' z') =
-      at_rows (λ R. On p (spot R n) ∷ Has (below p (spot R n) 0) (spot R b) u ∷ []) (λ R. Has p (spot R n) u) (call_has (stands x') (called x' y') (stands z'))
+      at_rows (λ R. On p (spot R n) ∷ Has (below p (spot R n) 0) (spot R b) u ∷ []) (λ R. Has p (spot R n) u)
+      (call_has (stands x') (called x' y') (stands z'))
   follows (loop_test_on {n = n} {t = t} {p = p} x') =
       at_rows (λ R. On p (spot R n) ∷ []) (λ R. On (below p (spot R n) 0) (spot R t)) (loop_test_on (loops x'))
   follows (first_has {n = n} {m = m} {c = c} {p = p} {u = u} x' y' z') =
-      at_rows (λ R. On p (spot R n) ∷ Has (without (loops_between R n c) p) (spot R c) u ∷ []) (λ R. Has (below p (spot R n) 0) (spot R m) u) (first_has (stands x') (nexts y') (used y' z'))
+      at_rows (λ R. On p (spot R n) ∷ Has (without (loops_between R n c) p) (spot R c) u ∷ [])
+      (λ R. Has (below p (spot R n) 0) (spot R m) u) (first_has (stands x') (nexts y') (used y' z'))
   follows (lower_on {n = n} {a = a} {p = p} x') =
       at_rows (λ R. On p (spot R n) ∷ []) (λ R. On p (spot R a)) (lower_on (counts x'))
   follows (upper_on {n = n} {b = b} {p = p} x') =
       at_rows (λ R. On p (spot R n) ∷ []) (λ R. On p (spot R b)) (upper_on (counts x'))
   follows (index_begins {n = n} {x = x} {a = a} {b = b} {p = p} {lo = lo} {hi = hi} x' y') =
-      at_rows (λ R. On p (spot R n) ∷ Has p (spot R a) (value.Int lo) ∷ Has p (spot R b) (value.Int hi) ∷ []) (λ R. Has (below p (spot R n) 0) (spot R x) (value.Int lo)) (index_begins (counts x') y')
+      at_rows (λ R. On p (spot R n) ∷ Has p (spot R a) (value.Int lo) ∷ Has p (spot R b) (value.Int hi) ∷ [])
+      (λ R. Has (below p (spot R n) 0) (spot R x) (value.Int lo)) (index_begins (counts x') y')
   follows (index_counts {n = n} {x = x} {b = b} {i = i} {hi = hi} p k x' y') =
-      at_rows (λ R. Has (below p (spot R n) k) (spot R x) (value.Int i) ∷ Has p (spot R b) (value.Int hi) ∷ []) (λ R. Has (below p (spot R n) (suc k)) (spot R x) (value.Int (i +ℤ pos 1))) (index_counts p k (counts x') y')
+      at_rows (λ R. Has (below p (spot R n) k) (spot R x) (value.Int i) ∷ Has p (spot R b) (value.Int hi) ∷ [])
+      (λ R. Has (below p (spot R n) (suc k)) (spot R x) (value.Int (i +ℤ pos 1))) (index_counts p k (counts x') y')
   follows (turn_on {n = n} {t = t} p k x') =
-      at_rows (λ R. Has (below p (spot R n) k) (spot R t) (value_of (constant.Bool true)) ∷ []) (λ R. On (below p (spot R n) (suc k)) (spot R t)) (turn_on p k (loops x'))
+      at_rows (λ R. Has (below p (spot R n) k) (spot R t) (value_of (constant.Bool true)) ∷ [])
+      (λ R. On (below p (spot R n) (suc k)) (spot R t)) (turn_on p k (loops x'))
   follows (loop_statement_on {n = n} {a = a} {fs = fs} p k x' y' z') =
-      at_rows (λ R. fs) (λ R. On (below p (spot R n) k) (spot R a)) (loop_statement_on p k (stands x') (goes y') (binds z'))
+      at_rows (λ R. fs) (λ R. On (below p (spot R n) k) (spot R a))
+      (loop_statement_on p k (stands x') (goes y') (binds z'))
   follows (loop_store_on {n = n} {m = m} {fs = fs} p k x' y' z') =
-      at_rows (λ R. fs) (λ R. On (below p (spot R n) k) (spot R m)) (loop_store_on p k (stands x') (goes y') (stores z'))
+      at_rows (λ R. fs) (λ R. On (below p (spot R n) k) (spot R m))
+      (loop_store_on p k (stands x') (goes y') (stores z'))
   follows (next_on {n = n} {v = v} {fs = fs} p k x' y' z') =
       at_rows (λ R. fs) (λ R. On (below p (spot R n) k) (spot R v)) (next_on p k (stands x') (goes y') (nexts z'))
   follows (next_has {n = n} {m = m} {v = v} {u = u} p k x' y') =
-      at_rows (λ R. Has (below p (spot R n) k) (spot R v) u ∷ []) (λ R. Has (below p (spot R n) (suc k)) (spot R m) u) (next_has p k (stands x') (nexts y'))
+      at_rows (λ R. Has (below p (spot R n) k) (spot R v) u ∷ []) (λ R. Has (below p (spot R n) (suc k)) (spot R m) u)
+      (next_has p k (stands x') (nexts y'))
   follows (last_on {n = n} {l = l} {fs = fs} p k x' y') =
       at_rows (λ R. fs) (λ R. On (below p (spot R n) k) (spot R l)) (last_on p k (stands x') (goes y'))
   follows (loop_has {n = n} {l = l} {u = u} p k x') =
@@ -241,15 +264,18 @@ module _ (P Q : Checked) (vs : List Constant) (alike : AreAlike P Q) where
   follows (bounds_high_on {n = n} {b = b} {p = p} x') =
       at_rows (λ R. On p (spot R n) ∷ []) (λ R. On p (spot R b)) (bounds_high_on (stands x'))
   follows (shape_made {n = n} {a = a} {b = b} {p = p} {lo = lo} {hi = hi} x' y') =
-      at_rows (λ R. On p (spot R n) ∷ Has p (spot R a) (value.Int lo) ∷ Has p (spot R b) (value.Int hi) ∷ []) (λ R. shape (site p (spot R n)) lo hi) (shape_made (stands x') y')
+      at_rows (λ R. On p (spot R n) ∷ Has p (spot R a) (value.Int lo) ∷ Has p (spot R b) (value.Int hi) ∷ [])
+      (λ R. shape (site p (spot R n)) lo hi) (shape_made (stands x') y')
   follows (array_has {n = n} {a = a} {b = b} {p = p} {lo = lo} {hi = hi} x' y') =
-      at_rows (λ R. On p (spot R n) ∷ Has p (spot R a) (value.Int lo) ∷ Has p (spot R b) (value.Int hi) ∷ []) (λ R. Has p (spot R n) (value.Name (site p (spot R n)))) (array_has (stands x') y')
+      at_rows (λ R. On p (spot R n) ∷ Has p (spot R a) (value.Int lo) ∷ Has p (spot R b) (value.Int hi) ∷ [])
+      (λ R. Has p (spot R n) (value.Name (site p (spot R n)))) (array_has (stands x') y')
   follows (fetch_target_on {n = n} {t = t} {p = p} x') =
       at_rows (λ R. On p (spot R n) ∷ []) (λ R. On p (spot R t)) (fetch_target_on (stands x'))
   follows (fetch_index_on {n = n} {i = i} {p = p} x') =
       at_rows (λ R. On p (spot R n) ∷ []) (λ R. On p (spot R i)) (fetch_index_on (stands x'))
   follows (asks {n = n} {t = t} {i = i} {p = p} {s = s} {j = j} {lo = lo} {hi = hi} x' y') =
-      at_rows (λ R. On p (spot R n) ∷ Has p (spot R t) (value.Name s) ∷ Has p (spot R i) (value.Int j) ∷ shape s lo hi ∷ []) (λ R. ask (site p (spot R n)) s j) (asks (stands x') y')
+      at_rows (λ R. On p (spot R n) ∷ Has p (spot R t) (value.Name s) ∷ Has p (spot R i) (value.Int j) ∷ shape s lo hi
+      ∷ []) (λ R. ask (site p (spot R n)) s j) (asks (stands x') y')
   follows (fetch_has {f = f} {s = s} {a = a} {j = j} {v = v}) = fetch_has
   follows (store_target_on {m = m} {t = t} {p = p} x') =
       at_rows (λ R. On p (spot R m) ∷ []) (λ R. On p (spot R t)) (store_target_on (store x'))
@@ -258,19 +284,25 @@ module _ (P Q : Checked) (vs : List Constant) (alike : AreAlike P Q) where
   follows (store_value_on {m = m} {x = x} {p = p} x') =
       at_rows (λ R. On p (spot R m) ∷ []) (λ R. On p (spot R x)) (store_value_on (store x'))
   follows (puts {m = m} {t = t} {i = i} {x = x} {p = p} {s = s} {j = j} {lo = lo} {hi = hi} {v = v} x' y') =
-      at_rows (λ R. On p (spot R m) ∷ Has p (spot R t) (value.Name s) ∷ Has p (spot R i) (value.Int j) ∷ Has p (spot R x) v ∷ shape s lo hi ∷ []) (λ R. put s j v (site p (spot R m))) (puts (store x') y')
+      at_rows (λ R. On p (spot R m) ∷ Has p (spot R t) (value.Name s) ∷ Has p (spot R i) (value.Int j)
+      ∷ Has p (spot R x) v ∷ shape s lo hi ∷ []) (λ R. put s j v (site p (spot R m))) (puts (store x') y')
 
   fails : {fs : List Fact} {f : SourceFault} → FaultRule (source P vs) fs f → FaultRule (source Q vs) fs f
   fails (unary_fails {n = n} {a = a} {p = p} {k = k} c x' y') =
-      fault_rows (λ R. On p (spot R n) ∷ Has p (spot R a) (value_of c) ∷ []) (λ R. Operator k (site p (spot R n))) (unary_fails c (stands x') y')
+      fault_rows (λ R. On p (spot R n) ∷ Has p (spot R a) (value_of c) ∷ []) (λ R. Operator k (site p (spot R n)))
+      (unary_fails c (stands x') y')
   fails (binary_fails {n = n} {a = a} {b = b} {p = p} {k = k} c d x' y') =
-      fault_rows (λ R. On p (spot R n) ∷ Has p (spot R a) (value_of c) ∷ Has p (spot R b) (value_of d) ∷ []) (λ R. Operator k (site p (spot R n))) (binary_fails c d (stands x') y')
+      fault_rows (λ R. On p (spot R n) ∷ Has p (spot R a) (value_of c) ∷ Has p (spot R b) (value_of d) ∷ [])
+      (λ R. Operator k (site p (spot R n))) (binary_fails c d (stands x') y')
   fails (bad_bounds {n = n} {a = a} {b = b} {p = p} {lo = lo} {hi = hi} x' y') =
-      fault_rows (λ R. On p (spot R n) ∷ Has p (spot R a) (value.Int lo) ∷ Has p (spot R b) (value.Int hi) ∷ []) (λ R. Operator BadBounds (site p (spot R n))) (bad_bounds (stands x') y')
+      fault_rows (λ R. On p (spot R n) ∷ Has p (spot R a) (value.Int lo) ∷ Has p (spot R b) (value.Int hi) ∷ [])
+      (λ R. Operator BadBounds (site p (spot R n))) (bad_bounds (stands x') y')
   fails (out_of_fetch {n = n} {t = t} {i = i} {p = p} {s = s} {j = j} {lo = lo} {hi = hi} x' y') =
-      fault_rows (λ R. On p (spot R n) ∷ Has p (spot R t) (value.Name s) ∷ Has p (spot R i) (value.Int j) ∷ shape s lo hi ∷ []) (λ R. Operator OutOfBounds (site p (spot R n))) (out_of_fetch (stands x') y')
+      fault_rows (λ R. On p (spot R n) ∷ Has p (spot R t) (value.Name s) ∷ Has p (spot R i) (value.Int j)
+      ∷ shape s lo hi ∷ []) (λ R. Operator OutOfBounds (site p (spot R n))) (out_of_fetch (stands x') y')
   fails (out_of_store {m = m} {t = t} {i = i} {p = p} {s = s} {j = j} {lo = lo} {hi = hi} x' y') =
-      fault_rows (λ R. On p (spot R m) ∷ Has p (spot R t) (value.Name s) ∷ Has p (spot R i) (value.Int j) ∷ shape s lo hi ∷ []) (λ R. Operator OutOfBounds (site p (spot R m))) (out_of_store (store x') y')
+      fault_rows (λ R. On p (spot R m) ∷ Has p (spot R t) (value.Name s) ∷ Has p (spot R i) (value.Int j)
+      ∷ shape s lo hi ∷ []) (λ R. Operator OutOfBounds (site p (spot R m))) (out_of_store (store x') y')
   fails (second_store {s = s} {a = a} {b = b} {j = j} {v = v} {w = w} x') = second_store x'
 
   -- ---- what holds
@@ -278,16 +310,25 @@ module _ (P Q : Checked) (vs : List Constant) (alike : AreAlike P Q) where
   pub rounds_to : (n : ℕ) (f : Fact) → Rounds (source P vs) n f → Rounds (source Q vs) n f
   rounds_to zero f h = absurd h
   rounds_to (suc n) f (inl h) = inl (rounds_to n f h)
-  rounds_to (suc n) f (inr h) = inr (h.0, follows h.1, every_to (Rounds (source P vs) n) (Rounds (source Q vs) n) (rounds_to n) h.0 h.2)
+  rounds_to (suc n) f (inr h) =
+      inr (h.0, follows h.1, every_to (Rounds (source P vs) n) (Rounds (source Q vs) n) (rounds_to n) h.0 h.2)
 
   pub holds_to : (f : Fact) → Holds (source P vs) f → Holds (source Q vs) f
   holds_to f h = record { round = h.round; there = rounds_to h.round f h.there }
 
   pub faulty_to : (f : SourceFault) → Faulty (source P vs) f → Faulty (source Q vs) f
-  faulty_to f h = record { premises = h.premises; rule = fails h.rule; hold = every_to (Holds (source P vs)) (Holds (source Q vs)) holds_to h.premises h.hold }
+  faulty_to f h =
+      record {
+        premises = h.premises;
+        rule = fails h.rule;
+        hold =
+            every_to (Holds (source P vs)) (Holds (source Q vs)) holds_to h.premises h.hold;
+      }
 
   pub answers_to : (v : SourceValue) → Answers (source P vs) v → Answers (source Q vs) v
-  answers_to v h = subst (λ e. Holds (source Q vs) (Has outermost e v)) same_start (holds_to (Has outermost (place P (main_body P)) v) h)
+  answers_to v h =
+      subst (λ e. Holds (source Q vs) (Has outermost e v)) same_start
+      (holds_to (Has outermost (place P (main_body P)) v) h)
 
   binder_to : (e : ℕ) → IsBinder P e → IsBinder Q e
   binder_to e h = record {

@@ -31,17 +31,20 @@ use Rattle.id_engine.proofs.HeldLemmas.{AreApartBy-held, AreApartBy-waiting}
 use Rattle.id_engine.proofs.NamesLemmas.{AreApart-sound}
 use Rattle.id_promises.proofs.RecordedLemmas.{AreRecords, one_fault, quiet_no_fault}
 
-module _ (S : Source) (g : Parts) (number : ℕ → ℕ → ℕ) (count : ℕ) (w : World) (ok : IsSound S g number w) (are : AreRecords w.elements) (b : Bool) where
+module _ (S : Source) (g : Parts) (number : ℕ → ℕ
+    → ℕ) (count : ℕ) (w : World) (ok : IsSound S g number w) (are : AreRecords w.elements) (b : Bool) where
   -- the machine
   abbrev pub its : MachineView
   its = record { graph = g; count = count; keeps = keeps.All; world = w }
 
   one_names : (ns ms : List NameValue) → IsSortedOf ns (shown.names g w) → IsSortedOf ms (shown.names g w) → ns ≡ ms
   one_names ns ms h k =
-      order_same _ _ _ names_told ns ms _ _ h k (AreApart-sound S g number w ok) (AreApart-sound S g number w ok) (IsPermutation-refl (shown.names g w))
+      order_same _ _ _ names_told ns ms _ _ h k (AreApart-sound S g number w ok) (AreApart-sound S g number w ok)
+      (IsPermutation-refl (shown.names g w))
 
   shown_one : (f : SourceFault) → shown.faults g w ≡ [] → IsFirstFault g w.elements f → ⊥
-  shown_one f none first = let there = first_is_shown g w.elements f first in no_one (shown.faults g w) f there.0 none there.1
+  shown_one f none first =
+      let there = first_is_shown g w.elements f first in no_one (shown.faults g w) f there.0 none there.1
 
   -- it ends in one way
   one_end : (e d : Ending) → EndsSo its e → EndsSo its d → e ≡ d
@@ -78,7 +81,8 @@ module _ (S : Source) (g : Parts) (number : ℕ → ℕ → ℕ) (count : ℕ) (
         let end : r.ending ≡ Quiet = one_end r.ending Quiet from.ends still in (
           ap status_of end,
           ap (ending_text text r (asked b r.names)) end
-              ∙ (λ i. quiet_text text (from.answer_is i) (names_as ns sorted i) (held_as hs held i) (waits_as ws waiting i)),
+              ∙ (λ i. quiet_text text (from.answer_is i) (names_as ns sorted i) (held_as hs held i)
+              (waits_as ws waiting i)),
         )
     printed_as steps _ _ (fault f first) =
         let end : r.ending ≡ Fault f = one_end r.ending (Fault f) from.ends first in
@@ -92,7 +96,8 @@ module _ (S : Source) (g : Parts) (number : ℕ → ℕ → ℕ) (count : ℕ) (
         )
 
     -- another report is printed so
-    pub reported_as : (q : Report) → IsReportFrom its b q → (status_of q.ending ≡ status_of r.ending) × (report_text text b q ≡ report_text text b r)
+    pub reported_as : (q : Report) → IsReportFrom its b q
+        → (status_of q.ending ≡ status_of r.ending) × (report_text text b q ≡ report_text text b r)
     reported_as q also =
         let end : q.ending ≡ r.ending = one_end q.ending r.ending also.ends from.ends in
         let answers : q.answer ≡ r.answer = also.answer_is ∙ sym from.answer_is in
@@ -103,8 +108,8 @@ module _ (S : Source) (g : Parts) (number : ℕ → ℕ → ℕ) (count : ℕ) (
           ap (ending_text text q (asked b q.names)) end ∙ by r.ending answers names helds waits,
         )
       where
-        by : (e : Ending) → q.answer ≡ r.answer → asked b q.names ≡ asked b r.names → q.structures ≡ r.structures → q.waiting ≡ r.waiting
-            → ending_text text q (asked b q.names) e ≡ ending_text text r (asked b r.names) e
+        by : (e : Ending) → q.answer ≡ r.answer → asked b q.names ≡ asked b r.names → q.structures ≡ r.structures
+            → q.waiting ≡ r.waiting → ending_text text q (asked b q.names) e ≡ ending_text text r (asked b r.names) e
         by Quiet answers names helds waits = λ i. quiet_text text (answers i) (names i) (helds i) (waits i)
         by Stopped answers names helds waits = λ i. stopped_text text (answers i) (names i) (helds i)
         by (Fault f) answers names helds waits = refl

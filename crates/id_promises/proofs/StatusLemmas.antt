@@ -37,13 +37,16 @@ pub ends_by : (g : Parts) (count steps : ℕ) (w : World) (text : List ℕ) (b :
     → Ends g count steps w text b status bytes → EndsBy g count steps w status
 ends_by g count steps w text b _ _ (quiet ns hs waits still sorted held waiting) = in_quiet refl still
 ends_by g count steps w text b _ _ (fault f first) = at_fault refl f first
-ends_by g count steps w text b _ _ (stopped ns hs none left all sorted held) = with_some (record { some = left; held = all })
+ends_by g count steps w text b _ _ (stopped ns hs none left all sorted held) =
+    with_some (record { some = left; held = all })
 
 -- where steps are enough, no source needs more
 not_short : (S : Source) (g : Parts) (steps : ℕ) → AreEnough S g steps → NeedsMore S g steps → ⊥
 not_short S g steps h n =
-    let few : length n.paths ≤ length h.paths = AllDiffer-few n.paths h.paths n.differ (λ p k. h.active p (n.active p k)) in
-    let most : messages_at_once g * length n.paths ≤ messages_at_once g * length h.paths = mul-le-mul_left (messages_at_once g) few in
+    let few : length n.paths ≤ length h.paths =
+    AllDiffer-few n.paths h.paths n.differ (λ p k. h.active p (n.active p k)) in
+    let most : messages_at_once g * length n.paths ≤ messages_at_once g * length h.paths =
+    mul-le-mul_left (messages_at_once g) few in
     omega (arith, most, h.enough, n.more)
 
 -- what a status of 0 tells, and one of 1
@@ -62,7 +65,8 @@ told_fault S status one_is f fault_is = record {
 }
 
 -- a state that is one with that of a run but for the order of what is in flight
-module _ (bounded : Bounded) (sound : Soundness) (complete : QuietIsComplete) (S : Source) (inputs : AreInputs S.checked S.inputs) (r : RunOf S)
+module _ (bounded : Bounded) (sound : Soundness) (complete : QuietIsComplete) (S : Source)
+    (inputs : AreInputs S.checked S.inputs) (r : RunOf S)
     (w : World) (same : IsSameBut (end_of S r) w) where
   free_there : IsQuiet w → FaultFree S
   free_there q =
@@ -77,13 +81,16 @@ module _ (bounded : Bounded) (sound : Soundness) (complete : QuietIsComplete) (S
   fault_there f first =
       let s : IsSound S r.graph r.schemas.number (end_of S r) = sound S r.graph r.count r.positions inputs r.schemas in
       let there = first_is_shown r.graph w.elements f first in
-      let here : Among f (shown.faults_in r.graph w.elements) = Among-from_at f (shown.faults_in r.graph w.elements) there.0 there.1 in
+      let here : Among f (shown.faults_in r.graph w.elements) =
+      Among-from_at f (shown.faults_in r.graph w.elements) there.0 there.1 in
       s.faults f (subst (λ (es : List State). Among f (shown.faults_in r.graph es)) (sym same.elements) here)
 
-  pub told_there : (steps status : ℕ) → steps < 2 ^ 64 - 1 → AreEnough S r.graph steps → EndsBy r.graph r.count steps w status → TellsFaults S status
+  pub told_there : (steps status : ℕ) → steps < 2 ^ 64 - 1 → AreEnough S r.graph steps
+      → EndsBy r.graph r.count steps w status → TellsFaults S status
   told_there steps status small enough (in_quiet is q) = told_free S status is (free_there q)
   told_there steps status small enough (at_fault is f first) = told_fault S status is f (fault_there f first)
-  told_there steps status small enough (with_some left) = absurd (not_short S r.graph steps enough (left_short bounded S inputs r w same steps small left))
+  told_there steps status small enough (with_some left) =
+      absurd (not_short S r.graph steps enough (left_short bounded S inputs r w same steps small left))
 
 pub StatusTold-laws : Bounded → Soundness → QuietIsComplete → StatusTold
 StatusTold-laws bounded sound complete = record {
@@ -93,7 +100,9 @@ StatusTold-laws bounded sound complete = record {
   of_program = λ text words count steps status t b old new result small h enough.
       let S = source h.program h.inputs in
       let at = (h.run).runs ((h.run).order).0 ((h.run).order).1 in
-      let r : RunOf S = record { graph = h.graph; schemas = schemas_of h.own; count = count; positions = at.positions } in
-      told_there bounded sound complete S (inputs_of h.program words h.inputs h.are_inputs) r (h.machine).world at.end steps status small enough
+      let r : RunOf S =
+      record { graph = h.graph; schemas = schemas_of h.own; count = count; positions = at.positions } in
+      told_there bounded sound complete S (inputs_of h.program words h.inputs h.are_inputs) r (h.machine).world at.end
+      steps status small enough
       (ends_by h.graph count steps (h.machine).world text b status h.output h.ends);
 }

@@ -1,5 +1,6 @@
 -- The facts of a round are told by their lines.
-use Rattle.std.proofs.Common.{◌≡◌, ◌⊎◌, ℕ, ℤ, ◌<◌, ◌≤◌, ◌^◌, Bool as Truth, true, false, List, inl, inr, length, get_or, refl, sym, ◌∙◌, arith}
+use Rattle.std.proofs.Common.{◌≡◌, ◌⊎◌, ℕ, ℤ, ◌<◌, ◌≤◌, ◌^◌, Bool as Truth, true, false, List, inl, inr, length, get_or}
+use Rattle.std.proofs.Common.{refl, sym, ◌∙◌, arith}
 use Rattle.std.proofs.lemmas.Bool.{false≢true}
 use Rattle.id_value.specs.Results.{is_whole}
 use Rattle.id_tree.specs.Distinct.{HasPlace}
@@ -57,10 +58,12 @@ module _ (S : Source) (wholes : HasWholes S) where
   told_cell : (f : Fact) → Holds S f → ToldCell f
   told_cell f h = let b = because S h.round f h.there in told_by b.rule b.hold
 
-module _ (text : List ℕ) (S : Source) (n : ℕ) (few : n < 2 ^ 64) (placed : (q : ℕ) → HasPlace (tree S.checked) q → q ≤ length text)
+module _ (text : List ℕ) (S : Source) (n : ℕ) (few : n < 2 ^ 64) (placed : (q : ℕ) → HasPlace (tree S.checked) q
+    → q ≤ length text)
     (loops : (q : ℕ) → IsLoopAt S.checked q → has_brace text q ≡ true)
     (wholes : HasWholes S) where
-  number_is : (s : PathStep) (b : Truth) → has_brace text s.place ≡ b → IsNumbered S.checked n s → NumberIsTold b s.number
+  number_is : (s : PathStep) (b : Truth) → has_brace text s.place ≡ b → IsNumbered S.checked n s
+      → NumberIsTold b s.number
   number_is s true e h = omega (arith, h.most, few)
   number_is s false e h = by h.only
     where
@@ -78,15 +81,18 @@ module _ (text : List ℕ) (S : Source) (n : ℕ) (few : n < 2 ^ 64) (placed : (
   site_is : (s : Site) → IsSite S.checked s → AreNumbered S.checked n s.path → SiteIsTold text s
   site_is s h k = point_is s.path s.place h k
 
-  value_is : (v : SourceValue) → PlacedValue S.checked v → NumberedValue S.checked n v → ToldNumber v → ValueIsTold text v
+  value_is : (v : SourceValue) → PlacedValue S.checked v → NumberedValue S.checked n v → ToldNumber v
+      → ValueIsTold text v
   value_is (Int i) h k t = t
   value_is (Bool b) h k t = tt
   value_is (Name s) h k t = site_is s h k
 
   fact_is : (f : Fact) → Holds S f → Placed S.checked f → Numbered S.checked n f → FactIsTold text f
   fact_is (On p e) x h k = point_is p e h k
-  fact_is (Has p e v) x h k = record { point = point_is p e h.0 k.0; value = value_is v h.1 k.1 (told_number S wholes p e v x) }
-  fact_is (Shape s) x h k = let t = told_cell S wholes (Shape s) x in record { name = site_is s.name h k; low = t.0; high = t.1 }
+  fact_is (Has p e v) x h k =
+      record { point = point_is p e h.0 k.0; value = value_is v h.1 k.1 (told_number S wholes p e v x) }
+  fact_is (Shape s) x h k =
+      let t = told_cell S wholes (Shape s) x in record { name = site_is s.name h k; low = t.0; high = t.1 }
   fact_is (Put p) x h k = let t = told_cell S wholes (Put p) x in record {
     cell = record { name = site_is p.name h.0 k.0; index = t.0 };
     value = value_is p.value h.1 k.1 t.1;

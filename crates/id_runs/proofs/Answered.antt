@@ -21,11 +21,13 @@ use Rattle.id_runs.proofs.CellLaws.{answered}
 use Rattle.id_runs.proofs.Messages.{arrived}
 
 -- an event that answers a read is one of the run, and sends the answer
-pub replies_sent : (g : Parts) (run : List Event) (t : Tag) (v : Value) (e : Event) → Replies run t v e → Among e run × Among (Token t Zero v) (sends_of g e)
+pub replies_sent : (g : Parts) (run : List Event) (t : Tag) (v : Value) (e : Event) → Replies run t v e
+    → Among e run × Among (Token t Zero v) (sends_of g e)
 replies_sent g run t v e (at_once n c among) = (among, inl refl)
 replies_sent g run t v e (by_fill n c w ts among there) = (among, Among-map (λ u. Token u Zero v) t ts there)
 
-module _ (g : Parts) (vs : List Constant) (count : ℕ) (s : World) (run : List Event) (r : Reach g vs count s run) (quiet : s.flight ≡ []) where
+module _ (g : Parts) (vs : List Constant) (count : ℕ) (s : World) (run : List Event) (r : Reach g vs count s run)
+    (quiet : s.flight ≡ []) where
   -- an answer that was sent was handled
   pub reply_handled : (t : Tag) (v : Value) (e : Event) → Replies run t v e → Among (Token t Zero v) (handled run)
   reply_handled t v e x =
@@ -33,7 +35,8 @@ module _ (g : Parts) (vs : List Constant) (count : ℕ) (s : World) (run : List 
       arrived g vs count s run r quiet (Token t Zero v) (inr (record { event = e; among = z.0; sends = z.1 }))
 
   -- so the answer to a read of a cell was handled, where a write of it found no other
-  pub answer_handled : (c : Cell) (t w : Tag) (v : Value) (a : ReadAnswer) (b : WriteAnswer) → ReadBy run c t a → WrittenBy run c v w b →
+  pub answer_handled : (c : Cell) (t w : Tag) (v : Value) (a : ReadAnswer) (b : WriteAnswer) → ReadBy run c t a
+      → WrittenBy run c v w b →
       ((x : Tag) → b ≡ Second x → ⊥)
       → Among (Token t Zero v) (handled run)
   answer_handled c t w v a b x y once =

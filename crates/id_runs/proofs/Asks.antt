@@ -24,11 +24,13 @@ pub record Asks (o : Op) (t : Tag) (ops : Operands) (c : Cell) (u : Tag) : Type 
   pub operands : ops ≡ One (Address c)
   pub reply : u ≡ beside t u.instr
 
-fetch_asks : (nested : Bool) (r : ℕ) (t : Tag) (ops : Operands) (c : Cell) (u : Tag) → fired_fetch nested r t ops ≡ Asked c u →
+fetch_asks : (nested : Bool) (r : ℕ) (t : Tag) (ops : Operands) (c : Cell) (u : Tag)
+    → fired_fetch nested r t ops ≡ Asked c u →
     (ops ≡ One (Address c)) × (u ≡ beside t r)
 fetch_asks nested r t (One (Address d)) c u e = by (beq d.structure.nested nested) e
   where
-    by : (b : Bool) → cond b (Asked d (beside t r)) Nothing ≡ Asked c u → (One (Address d) ≡ One (Address c)) × (u ≡ beside t r)
+    by : (b : Bool) → cond b (Asked d (beside t r)) Nothing ≡ Asked c u
+        → (One (Address d) ≡ One (Address c)) × (u ≡ beside t r)
     by true is =
         let cell : d ≡ c = cc in
         let reply : beside t r ≡ u = cc in
@@ -36,7 +38,8 @@ fetch_asks nested r t (One (Address d)) c u e = by (beq d.structure.nested neste
     by false is = cc
 fetch_asks nested r t _ c u e = cc
 
-pub asked_by : (o : Op) (t : Tag) (ops : Operands) (f : Fresh) (c : Cell) (u : Tag) → fired o t ops f ≡ Asked c u → Asks o t ops c u
+pub asked_by : (o : Op) (t : Tag) (ops : Operands) (f : Fresh) (c : Cell) (u : Tag) → fired o t ops f ≡ Asked c u
+    → Asks o t ops c u
 asked_by o t ops f c u e =
     let is : o ≡ op.Fetch c.structure.nested u.instr = subst (IsOfKind o) e (IsOfKind-fired o t ops f) in
     let z = fetch_asks c.structure.nested u.instr t ops c u (subst (λ q. fired q t ops f ≡ Asked c u) is e) in
@@ -50,7 +53,8 @@ pub record Stores (o : Op) (t : Tag) (ops : Operands) (c : Cell) (v : Value) (u 
   pub origin : u ≡ t
 
 -- what is stored, where it is known to be a `store` that does
-store_stores : (nested : Bool) (t : Tag) (ops : Operands) (c : Cell) (v : Value) (u : Tag) → fired_store nested t ops ≡ Stored c v u →
+store_stores : (nested : Bool) (t : Tag) (ops : Operands) (c : Cell) (v : Value) (u : Tag)
+    → fired_store nested t ops ≡ Stored c v u →
     (ops ≡ Two (Address c) v) × (u ≡ t)
 store_stores nested t (Two (Address d) w) c v u e = by (may_hold nested d w) e
   where
@@ -63,7 +67,8 @@ store_stores nested t (Two (Address d) w) c v u e = by (may_hold nested d w) e
     by false is = cc
 store_stores nested t _ c v u e = cc
 
-pub stored_by : (o : Op) (t : Tag) (ops : Operands) (f : Fresh) (c : Cell) (v : Value) (u : Tag) → fired o t ops f ≡ Stored c v u → Stores o t ops c v u
+pub stored_by : (o : Op) (t : Tag) (ops : Operands) (f : Fresh) (c : Cell) (v : Value) (u : Tag)
+    → fired o t ops f ≡ Stored c v u → Stores o t ops c v u
 stored_by o t ops f c v u e =
     let said : IsOfKind o (Stored c v u) = subst (IsOfKind o) e (IsOfKind-fired o t ops f) in
     let is : o ≡ op.Store c.structure.nested = said.0 in

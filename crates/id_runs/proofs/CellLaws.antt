@@ -18,10 +18,12 @@ use Rattle.id_runs.proofs.Cells.{waits_read, read_waits}
 
 -- ---- two events on a cell
 
-pub same_write : {n m : ℕ} {c d : Cell} {u v : Value} {x w : Tag} {a b : WriteAnswer} → Wrote n c u x a ≡ Wrote m d v w b → (u ≡ v) × ((x ≡ w) × (a ≡ b))
+pub same_write : {n m : ℕ} {c d : Cell} {u v : Value} {x w : Tag} {a b : WriteAnswer}
+    → Wrote n c u x a ≡ Wrote m d v w b → (u ≡ v) × ((x ≡ w) × (a ≡ b))
 same_write e = (cc, (cc, cc))
 
-pub same_read : {n m : ℕ} {c d : Cell} {x w : Tag} {a b : ReadAnswer} → Looked n c x a ≡ Looked m d w b → (c ≡ d) × (a ≡ b)
+pub same_read : {n m : ℕ} {c d : Cell} {x w : Tag} {a b : ReadAnswer} → Looked n c x a ≡ Looked m d w b
+    → (c ≡ d) × (a ≡ b)
 same_read e = (cc, cc)
 
 same_readers : {ts us : List Tag} → Readers ts ≡ Readers us → ts ≡ us
@@ -43,7 +45,8 @@ module _ (run : List Event) where
   -- ---- of a cell that holds a value
 
   -- what fills it is the one event that its history names
-  full_fill : (c : Cell) (v u : Value) (w x : Tag) (ts : List Tag) (f : Full run c v w) (y : WrittenBy run c u x (Readers ts))
+  full_fill : (c : Cell) (v u : Value) (w x : Tag) (ts : List Tag) (f : Full run c v w)
+      (y : WrittenBy run c u x (Readers ts))
       → Wrote y.element c u x (Readers ts) ≡ Wrote (f.filled).element c v w (Readers f.replies)
   full_fill c v u w x ts f y =
       elim (f.writes y.element u x (Readers ts) y.among) [
@@ -52,7 +55,8 @@ module _ (run : List Event) where
       ]
 
   -- each read of it was answered at once, or by the fill
-  full_reads : (c : Cell) (v : Value) (w t : Tag) (a : ReadAnswer) (f : Full run c v w) → ReadBy run c t a → (a ≡ Now v) ⊎ Among t f.replies
+  full_reads : (c : Cell) (v : Value) (w t : Tag) (a : ReadAnswer) (f : Full run c v w) → ReadBy run c t a
+      → (a ≡ Now v) ⊎ Among t f.replies
   full_reads c v w t a f x =
       elim (f.reads t a x) [
         | inl now ↦ inl now
@@ -60,11 +64,18 @@ module _ (run : List Event) where
       ]
 
   -- so the answer to each read of it was sent
-  full_answers : (c : Cell) (v : Value) (w t : Tag) (a : ReadAnswer) → Full run c v w → ReadBy run c t a → (e : Event) × Replies run t v e
+  full_answers : (c : Cell) (v : Value) (w t : Tag) (a : ReadAnswer) → Full run c v w → ReadBy run c t a
+      → (e : Event) × Replies run t v e
   full_answers c v w t a f x =
       elim (full_reads c v w t a f x) [
-        | inl now ↦ (Looked x.element c t (Now v), at_once x.element c (subst (λ z. Among (Looked x.element c t z) run) now x.among))
-        | inr later ↦ (Wrote (f.filled).element c v w (Readers f.replies), by_fill (f.filled).element c w f.replies (f.filled).among later)
+        | inl now ↦ (
+          Looked x.element c t (Now v),
+          at_once x.element c (subst (λ z. Among (Looked x.element c t z) run) now x.among),
+        )
+        | inr later ↦ (
+          Wrote (f.filled).element c v w (Readers f.replies),
+          by_fill (f.filled).element c w f.replies (f.filled).among later,
+        )
       ]
 
   module _ (cell : Cell → Option CellState) (exact : (c : Cell) → History run c (cell c)) where
@@ -81,33 +92,40 @@ module _ (run : List Event) where
     -- ---- fills
 
     -- a cell that holds a value was filled with it, and one that was filled holds it
-    pub filled : (c : Cell) (v : Value) (w : Tag) → cell c ≡ Some (Present v w) → (ts : List Tag) × WrittenBy run c v w (Readers ts)
+    pub filled : (c : Cell) (v : Value) (w : Tag) → cell c ≡ Some (Present v w)
+        → (ts : List Tag) × WrittenBy run c v w (Readers ts)
     filled c v w is = let f : Full run c v w = subst (History run c) is (exact c) in (f.replies, f.filled)
 
-    pub fills : (c : Cell) (v : Value) (w : Tag) (ts : List Tag) → WrittenBy run c v w (Readers ts) → cell c ≡ Some (Present v w)
+    pub fills : (c : Cell) (v : Value) (w : Tag) (ts : List Tag) → WrittenBy run c v w (Readers ts)
+        → cell c ≡ Some (Present v w)
     fills c v w ts y =
         when_written (cell c ≡ Some (Present v w)) c v w (Readers ts) y
-        (λ u x is f. let z = same_write (full_fill c u v x w ts f y) in is ∙ (λ j. Some (Present (sym z.0 j) (sym z.1.0 j))))
+        (λ u x is f. let z = same_write (full_fill c u v x w ts f y) in
+        is ∙ (λ j. Some (Present (sym z.0 j) (sym z.1.0 j))))
 
     -- a cell is filled once
-    pub one_fill : (c : Cell) (v v' : Value) (w w' : Tag) (ts ts' : List Tag) (y : WrittenBy run c v w (Readers ts)) (z : WrittenBy run c v' w' (Readers ts'))
+    pub one_fill : (c : Cell) (v v' : Value) (w w' : Tag) (ts ts' : List Tag) (y : WrittenBy run c v w (Readers ts))
+        (z : WrittenBy run c v' w' (Readers ts'))
         → Wrote y.element c v w (Readers ts) ≡ Wrote z.element c v' w' (Readers ts')
     one_fill c v v' w w' ts ts' y z =
         when_written (Wrote y.element c v w (Readers ts) ≡ Wrote z.element c v' w' (Readers ts')) c v w (Readers ts) y
         (λ u x is f. full_fill c u v x w ts f y ∙ sym (full_fill c u v' x w' ts' f z))
 
     -- the list of a fill is that of all reads that were put off, in order of arrival
-    pub whole_list : (c : Cell) (v : Value) (w : Tag) (ts : List Tag) → WrittenBy run c v w (Readers ts) → ts ≡ put_off run c
+    pub whole_list : (c : Cell) (v : Value) (w : Tag) (ts : List Tag) → WrittenBy run c v w (Readers ts)
+        → ts ≡ put_off run c
     whole_list c v w ts y =
         when_written (ts ≡ put_off run c) c v w (Readers ts) y
         (λ u x is f. same_readers (same_write (full_fill c u v x w ts f y)).1.1 ∙ f.answered)
 
-    pub put_off_by : (c : Cell) (v : Value) (w t : Tag) (ts : List Tag) → WrittenBy run c v w (Readers ts) → Among t ts → ReadBy run c t Deferred
+    pub put_off_by : (c : Cell) (v : Value) (w t : Tag) (ts : List Tag) → WrittenBy run c v w (Readers ts) → Among t ts
+        → ReadBy run c t Deferred
     put_off_by c v w t ts y among = waits_read run c t (subst (Among t) (whole_list c v w ts y) among)
 
     -- a write fills its cell, or finds the origin that it holds
     pub writes : (c : Cell) (v : Value) (w : Tag) (a : WriteAnswer) → WrittenBy run c v w a
-        → ((ts : List Tag) × (a ≡ Readers ts) × WrittenBy run c v w (Readers ts)) ⊎ ((x : Tag) × (u : Value) × (a ≡ Second x) × (cell c ≡ Some (Present u x)))
+        → ((ts : List Tag) × (a ≡ Readers ts) × WrittenBy run c v w (Readers ts))
+        ⊎ ((x : Tag) × (u : Value) × (a ≡ Second x) × (cell c ≡ Some (Present u x)))
     writes c v w a y =
         when_written (((ts : List Tag) × (a ≡ Readers ts) × WrittenBy run c v w (Readers ts)) ⊎
         ((x : Tag) × (u : Value) × (a ≡ Second x) × (cell c ≡ Some (Present u x)))) c v w a y
@@ -126,7 +144,8 @@ module _ (run : List Event) where
         off h = subst (Among t) (sym h.waiting) (read_waits run c t (subst (ReadBy run c t) (h.reads t a x) x))
 
         by : (st : Option CellState) → cell c ≡ st → History run c st
-            → ((v : Value) × (w : Tag) × (ts : List Tag) × WrittenBy run c v w (Readers ts) × ((a ≡ Now v) ⊎ Among t ts))
+            → ((v : Value) × (w : Tag) × (ts : List Tag) × WrittenBy run c v w (Readers ts)
+            × ((a ≡ Now v) ⊎ Among t ts))
             ⊎ ((ts : List Tag) × (cell c ≡ Some (Waiting ts)) × Among t ts × (a ≡ Deferred))
         by None is h = absurd (off h)
         by (Some (Waiting ts)) is h = inr (ts, is, off h, h.reads t a x)
@@ -135,13 +154,15 @@ module _ (run : List Event) where
     -- ---- a read and a write of one cell
 
     -- where the write found no other, the answer to the read was sent, with its value
-    pub answered : (c : Cell) (t w : Tag) (v : Value) (a : ReadAnswer) (b : WriteAnswer) → ReadBy run c t a → WrittenBy run c v w b →
+    pub answered : (c : Cell) (t w : Tag) (v : Value) (a : ReadAnswer) (b : WriteAnswer) → ReadBy run c t a
+        → WrittenBy run c v w b →
         ((x : Tag) → b ≡ Second x → ⊥)
         → (e : Event) × Replies run t v e
     answered c t w v a b x y quiet =
         when_written ((e : Event) × Replies run t v e) c v w b y
         (λ u z is f. elim (f.writes y.element v w b y.among) [
-          | inl same ↦ (let k = full_answers c u z t a f x in (k.0, subst (λ q. Replies run t q k.0) (sym (same_write same).0) k.1))
+          | inl same ↦ (let k = full_answers c u z t a f x in
+              (k.0, subst (λ q. Replies run t q k.0) (sym (same_write same).0) k.1))
           | inr finds ↦ absurd (quiet z finds)
         ])
 
@@ -165,7 +186,8 @@ module _ (run : List Event) where
     -- ---- a second store
 
     -- a write that is not the fill finds it
-    pub finds_fill : (c : Cell) (v v' : Value) (w w' : Tag) (ts : List Tag) (a : WriteAnswer) → WrittenBy run c v w (Readers ts) → WrittenBy run c v' w' a →
+    pub finds_fill : (c : Cell) (v v' : Value) (w w' : Tag) (ts : List Tag) (a : WriteAnswer)
+        → WrittenBy run c v w (Readers ts) → WrittenBy run c v' w' a →
         (w ≡ w' → ⊥)
         → a ≡ Second w
     finds_fill c v v' w w' ts a y z differ =
@@ -178,7 +200,8 @@ module _ (run : List Event) where
         ])
 
     -- what a write finds is the origin of the fill
-    pub finds_put : (c : Cell) (v : Value) (w x : Tag) → WrittenBy run c v w (Second x) → (u : Value) × (ts : List Tag) × WrittenBy run c u x (Readers ts)
+    pub finds_put : (c : Cell) (v : Value) (w x : Tag) → WrittenBy run c v w (Second x)
+        → (u : Value) × (ts : List Tag) × WrittenBy run c u x (Readers ts)
     finds_put c v w x y =
         elim (writes c v w (Second x) y) [
           | inl z ↦ absurd (fills_not_finds (sym z.1))
@@ -189,7 +212,8 @@ module _ (run : List Event) where
         ]
 
     -- of two writes with two origins one found the other's, or both found a third one's
-    pub second_store : (c : Cell) (v v' : Value) (w w' : Tag) (a a' : WriteAnswer) → WrittenBy run c v w a → WrittenBy run c v' w' a' → (w ≡ w' → ⊥)
+    pub second_store : (c : Cell) (v v' : Value) (w w' : Tag) (a a' : WriteAnswer) → WrittenBy run c v w a
+        → WrittenBy run c v' w' a' → (w ≡ w' → ⊥)
         → (a' ≡ Second w) ⊎ ((a ≡ Second w') ⊎ ((x : Tag) × (a ≡ Second x) × (a' ≡ Second x)))
     second_store c v v' w w' a a' y z differ =
         when_written ((a' ≡ Second w) ⊎ ((a ≡ Second w') ⊎ ((x : Tag) × (a ≡ Second x) × (a' ≡ Second x)))) c v w a y
@@ -214,8 +238,10 @@ module _ (run : List Event) where
 
     -- ---- where no write found another, a cell has one write
 
-    pub one_put : ((c : Cell) (v : Value) (w x : Tag) → WrittenBy run c v w (Second x) → ⊥) → (c : Cell) (v v' : Value) (w w' : Tag) (a a' : WriteAnswer)
-        (y : WrittenBy run c v w a) (z : WrittenBy run c v' w' a') → Wrote y.element c v w a ≡ Wrote z.element c v' w' a'
+    pub one_put : ((c : Cell) (v : Value) (w x : Tag) → WrittenBy run c v w (Second x) → ⊥)
+        → (c : Cell) (v v' : Value) (w w' : Tag) (a a' : WriteAnswer)
+        (y : WrittenBy run c v w a) (z : WrittenBy run c v' w' a')
+        → Wrote y.element c v w a ≡ Wrote z.element c v' w' a'
     one_put quiet c v v' w w' a a' y z =
         when_written (Wrote y.element c v w a ≡ Wrote z.element c v' w' a') c v w a y
         (λ u x is f.
@@ -229,7 +255,8 @@ module _ (run : List Event) where
 
     -- ---- an answer's value was put into the cell that was asked for
 
-    answers_put : (c : Cell) (t : Tag) (v : Value) → ReadBy run c t (Now v) → (w : Tag) × (ts : List Tag) × WrittenBy run c v w (Readers ts)
+    answers_put : (c : Cell) (t : Tag) (v : Value) → ReadBy run c t (Now v)
+        → (w : Tag) × (ts : List Tag) × WrittenBy run c v w (Readers ts)
     answers_put c t v x = by (cell c) (exact c)
       where
         by : (st : Option CellState) → History run c st → (w : Tag) × (ts : List Tag) × WrittenBy run c v w (Readers ts)
@@ -237,13 +264,18 @@ module _ (run : List Event) where
         by (Some (Waiting ts)) h = absurd (answers_not_defers (h.reads t (Now v) x))
         by (Some (Present u w)) h =
             elim (h.reads t (Now v) x) [
-              | inl is ↦ (w, h.replies, subst (λ z. WrittenBy run c z w (Readers h.replies)) (sym (same_now is)) h.filled)
+              | inl is ↦ (
+                w,
+                h.replies,
+                subst (λ z. WrittenBy run c z w (Readers h.replies)) (sym (same_now is)) h.filled,
+              )
               | inr later ↦ absurd (answers_not_defers later)
             ]
 
     -- so each reply is that of a read, with the value of the fill of its cell
     pub reply_sound : (t : Tag) (v : Value) (e : Event) → Replies run t v e
-        → (c : Cell) × ((a : ReadAnswer) × ReadBy run c t a) × ((w : Tag) × (ts : List Tag) × WrittenBy run c v w (Readers ts))
+        → (c : Cell) × ((a : ReadAnswer) × ReadBy run c t a)
+        × ((w : Tag) × (ts : List Tag) × WrittenBy run c v w (Readers ts))
     reply_sound t v e (at_once n c among) =
         let x : ReadBy run c t (Now v) = record { element = n; among = among } in
         (c, (Now v, x), answers_put c t v x)
@@ -253,23 +285,29 @@ module _ (run : List Event) where
 
     -- ---- one answer for each read, where each key was handled once
 
-    pub one_read : Few run → (c c' : Cell) (t : Tag) (a a' : ReadAnswer) (x : ReadBy run c t a) (y : ReadBy run c' t a') →
+    pub one_read : Few run → (c c' : Cell) (t : Tag) (a a' : ReadAnswer) (x : ReadBy run c t a) (y : ReadBy run c' t a')
+        →
         Looked x.element c t a ≡ Looked y.element c' t a'
     one_read few c c' t a a' x y = one_event (ByFetch t) _ _ run (few (ByFetch t)) x.among y.among refl refl
 
     pub one_reply : Few run → (t : Tag) (v v' : Value) (e e' : Event) → Replies run t v e → Replies run t v' e' → e ≡ e'
     one_reply few t v v' e e' (at_once n c among) (at_once n' c' among') =
-        one_read few c c' t (Now v) (Now v') (record { element = n; among = among }) (record { element = n'; among = among' })
+        one_read few c c' t (Now v) (Now v') (record { element = n; among = among })
+        (record { element = n'; among = among' })
     one_reply few t v v' e e' (at_once n c among) (by_fill n' c' w ts among' there) =
         let z = put_off_by c' v' w t ts (record { element = n'; among = among' }) there in
-        absurd (answers_not_defers (same_read (one_read few c c' t (Now v) Deferred (record { element = n; among = among }) z)).1)
+        absurd (answers_not_defers
+        (same_read (one_read few c c' t (Now v) Deferred (record { element = n; among = among }) z)).1)
     one_reply few t v v' e e' (by_fill n c w ts among there) (at_once n' c' among') =
         let z = put_off_by c v w t ts (record { element = n; among = among }) there in
-        absurd (answers_not_defers (same_read (one_read few c' c t (Now v') Deferred (record { element = n'; among = among' }) z)).1)
+        absurd (answers_not_defers
+        (same_read (one_read few c' c t (Now v') Deferred (record { element = n'; among = among' }) z)).1)
     one_reply few t v v' e e' (by_fill n c w ts among there) (by_fill n' c' w' ts' among' there') =
         let y : WrittenBy run c v w (Readers ts) = record { element = n; among = among } in
         let y' : WrittenBy run c' v' w' (Readers ts') = record { element = n'; among = among' } in
-        let k = (same_read (one_read few c c' t Deferred Deferred (put_off_by c v w t ts y there) (put_off_by c' v' w' t ts' y' there'))).0 in
+        let k = (same_read
+        (one_read few c c' t Deferred Deferred (put_off_by c v w t ts y there) (put_off_by c' v' w' t ts' y' there'))).0
+        in
         let y'' : WrittenBy run c v' w' (Readers ts') = record {
           element = n';
           among = subst (λ d. Among (Wrote n' d v' w' (Readers ts')) run) (sym k) among';

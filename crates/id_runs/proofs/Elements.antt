@@ -27,7 +27,8 @@ module _ (g : Parts) (count : ℕ) where
         subst (λ (k : ℕ). All (IsLegal g count k) e.state.events) h.number counted,
       )
 
-  each : (k : ℕ) (es : List ElementView) → ((n : ℕ) (d : ElementView) → n < length es → IsElement g count (k + n) (slice_index_or es n d))
+  each : (k : ℕ) (es : List ElementView)
+      → ((n : ℕ) (d : ElementView) → n < length es → IsElement g count (k + n) (slice_index_or es n d))
       → AllByRecursion Replays es → (n : ℕ) (s : State) → slice_get (map (λ e. e.state) es) n ≡ Some s → IsLed (k + n) s
   each k [] numbers replays n s at = absurd cc
   each k (e ∷ es) numbers replays zero s at =
@@ -40,8 +41,8 @@ module _ (g : Parts) (count : ℕ) where
       subst (λ j. IsElement g count j (slice_index_or es m d)) next (numbers (suc m) d (omega arith))) replays.1 n s at)
 
   -- where each element has its place in the list as its number, and its record leads to its state, so do their states
-  pub AreReplayed-from : (es : List ElementView) → length es ≡ count → AreElements g count es → AllByRecursion Replays es
-      → AreReplayed g count (map (λ e. e.state) es)
+  pub AreReplayed-from : (es : List ElementView) → length es ≡ count → AreElements g count es
+      → AllByRecursion Replays es → AreReplayed g count (map (λ e. e.state) es)
   AreReplayed-from es len numbers replays = record {
     len = length-states es ∙ len;
     replayed = λ n s at. (all n s at).0;

@@ -1,5 +1,6 @@
 -- The records say under which tag a context was entered.
-use Rattle.std.proofs.Common.{◌≡◌, ◌⊎◌, inl, inr, ℕ, zero, suc, ◌-◌, ◌≤◌, Bool, true, false, ◌&&◌, cond, Option, Some, None, List, [], ◌∷◌, ◌++◌}
+use Rattle.std.proofs.Common.{◌≡◌, ◌⊎◌, inl, inr, ℕ, zero, suc, ◌-◌, ◌≤◌, Bool, true, false, ◌&&◌, cond, Option, Some}
+use Rattle.std.proofs.Common.{None, List, [], ◌∷◌, ◌++◌}
 use Rattle.std.proofs.Common.{length, length-append, map, slice_get, refl, sym, ◌∙◌, ap, subst, arith}
 use Rattle.std.specs.Option.{option_map}
 use Rattle.std.proofs.lemmas.List.{append_assoc, length-map}
@@ -39,7 +40,8 @@ use Rattle.id_value.proofs.AmongLemmas.{Among-map}
 use Rattle.id_value.proofs.DifferLemmas.{AllDiffer-few}
 use Rattle.id_value.proofs.PlacesLemmas.{slice_get-last}
 use Rattle.id_runs.specs.Activations.{main_context}
-use Rattle.id_runs.specs.Events.{Waits, Blocked, Fires, Event, Took, Looked, Wrote, FiresAs, fired_event, sent_on, Enters}
+use Rattle.id_runs.specs.Events.{Waits, Blocked, Fires, Event, Took, Looked, Wrote, FiresAs, fired_event, sent_on}
+use Rattle.id_runs.specs.Events.{Enters}
 use Rattle.id_runs.specs.Runs.{Reach}
 use Rattle.id_runs.specs.Serials.{ContextsApart}
 use Rattle.id_runs.proofs.Enters as firing
@@ -60,7 +62,8 @@ same_itself : (c : Context) → same_context c c ≡ true
 same_itself c = of_both (same_context c c) (same_tag_laws.refl (in_context c))
 
 one_context : (c d : Context) → same_context c d ≡ true → c ≡ d
-one_context c d e = ap (λ (t : Tag). t.context) (one_from_same_tag (in_context c) (in_context d) (ap (λ b. b && true) e))
+one_context c d e =
+    ap (λ (t : Tag). t.context) (one_from_same_tag (in_context c) (in_context d) (ap (λ b. b && true) e))
 
 -- ---- the last message
 
@@ -72,7 +75,8 @@ abbrev last_of : List Payload → Option Context
 last_of xs = option_map context_of (slice_get xs (length xs - 1))
 
 said_at : (ms : List Message) (k : ℕ)
-    → option_map (λ (m : Message). context_of m.payload) (slice_get ms k) ≡ option_map context_of (slice_get (map (λ (m : Message). m.payload) ms) k)
+    → option_map (λ (m : Message). context_of m.payload) (slice_get ms k)
+    ≡ option_map context_of (slice_get (map (λ (m : Message). m.payload) ms) k)
 said_at [] k = refl
 said_at (m ∷ ms) zero = refl
 said_at (m ∷ ms) (suc k) = said_at ms k
@@ -80,7 +84,8 @@ said_at (m ∷ ms) (suc k) = said_at ms k
 last_said : (ms : List Message) → last_context ms ≡ last_of (map (λ (m : Message). m.payload) ms)
 last_said ms =
     said_at ms (length ms - 1)
-    ∙ ap (λ n. option_map context_of (slice_get (map (λ (m : Message). m.payload) ms) (n - 1))) (sym (length-map ms (λ (m : Message). m.payload)))
+    ∙ ap (λ n. option_map context_of (slice_get (map (λ (m : Message). m.payload) ms) (n - 1)))
+    (sym (length-map ms (λ (m : Message). m.payload)))
 
 last_added : (xs : List Payload) (x : Payload) → last_of (xs ++ x ∷ []) ≡ Some (context_of x)
 last_added xs x =
@@ -91,7 +96,8 @@ last_of_two : (xs : List Payload) (x y : Payload) → last_of (xs ++ x ∷ y ∷
 last_of_two xs x y = ap last_of (sym (append_assoc xs (x ∷ []) (y ∷ []))) ∙ last_added (xs ++ x ∷ []) y
 
 -- an `enter` sends its last message into the context that it makes
-last_started : (ds : List Dest) (b r : ℕ) (t : Tag) (c : Context) → last_of (sent (Some (op.Enter b r)) ds t (fires.Entered c)) ≡ Some c
+last_started : (ds : List Dest) (b r : ℕ) (t : Tag) (c : Context)
+    → last_of (sent (Some (op.Enter b r)) ds t (fires.Entered c)) ≡ Some c
 last_started ds b r t c = last_of_two (map (token_to t (value.Context c)) ds) _ _
 
 -- ---- what an operator enters
@@ -115,7 +121,8 @@ nothing_sent (Some (op.Fetch nested r)) ms e = refl
 nothing_sent (Some (op.Store nested)) ms e = refl
 
 -- an `enter` makes a context or comes to nothing
-enter_fires : (f : Fired) (next : Context) (ops : Operands) → f ≡ fired_enter next ops → (f ≡ fires.Nothing) ⊎ (f ≡ fires.Entered next)
+enter_fires : (f : Fired) (next : Context) (ops : Operands) → f ≡ fired_enter next ops
+    → (f ≡ fires.Nothing) ⊎ (f ≡ fires.Entered next)
 enter_fires f next (One value.Signal) e = inr e
 enter_fires f next _ e = inl e
 
@@ -157,7 +164,8 @@ module _ (g : Parts) (vs : List Constant) (count : ℕ) (s : World) (run : List 
   entered_is {t} {d} x v shows =
       let y = has_fired g vs count s run r x in
       let e = firing.entered_by (y.instr).op t x.operands y.fresh d (sym y.is) in
-      let op_is : op_at g t.instr ≡ Some (op.Enter e.block e.reply) = ap (option_map (λ (i : Instr). i.op)) y.at ∙ ap (λ o. Some o) e.is in
+      let op_is : op_at g t.instr ≡ Some (op.Enter e.block e.reply) =
+      ap (option_map (λ (i : Instr). i.op)) y.at ∙ ap (λ o. Some o) e.is in
       let ds = dests_at g t.instr true in
       ap (λ z. entered g z v.outputs) shows.payload
       ∙ ap (λ o. entered_by o v.outputs) op_is
@@ -167,23 +175,27 @@ module _ (g : Parts) (vs : List Constant) (count : ℕ) (s : World) (run : List 
       ∙ last_started ds e.block e.reply t d
 
   -- and under which tag
-  tag_said : {t : Tag} {d : Context} (x : FiresAs run t (fires.Entered d)) (v : EventView) → Shows g v (fired_event x) → (c : Context)
-      → enter_of g v c ≡ if_same t c (Some d)
+  tag_said : {t : Tag} {d : Context} (x : FiresAs run t (fires.Entered d)) (v : EventView) → Shows g v (fired_event x)
+      → (c : Context) → enter_of g v c ≡ if_same t c (Some d)
   tag_said x v shows c = (λ i. if_same (tag_of (shows.payload i)) c (entered_is x v shows i))
 
-  said_itself : {t : Tag} {c : Context} (x : FiresAs run t (fires.Entered c)) (v : EventView) → Shows g v (fired_event x) → enter_of g v c ≡ Some t
+  said_itself : {t : Tag} {c : Context} (x : FiresAs run t (fires.Entered c)) (v : EventView)
+      → Shows g v (fired_event x) → enter_of g v c ≡ Some t
   said_itself {t} {c} x v shows = tag_said x v shows c ∙ ap (λ b. cond b (Some t) None) (same_itself c)
 
-  silent : (v : EventView) (t : Tag) (p : Port) (u : Value) (c : Context) → v.message.payload ≡ Token t p u → map (λ (m : Message). m.payload) v.outputs ≡ []
-      → enter_of g v c ≡ None
+  silent : (v : EventView) (t : Tag) (p : Port) (u : Value) (c : Context) → v.message.payload ≡ Token t p u
+      → map (λ (m : Message). m.payload) v.outputs ≡ [] → enter_of g v c ≡ None
   silent v t p u c is e =
       ap (λ x. if_same (tag_of x) c (entered g x v.outputs)) is
       ∙ ap (if_same t c) (nothing_sent (op_at g t.instr) v.outputs (last_said v.outputs ∙ ap last_of e))
 
   -- an event that has not entered the context does not say so
-  said_none : (v : EventView) (h : Event) → Among h run → Shows g v h → (c : Context) → (enter_of g v c ≡ None) ⊎ Enters h c
-  said_none v (Looked n d t a) among shows c = inl (ap (λ x. if_same (tag_of x) c (entered g x v.outputs)) shows.payload)
-  said_none v (Wrote n d u w a) among shows c = inl (ap (λ x. if_same (tag_of x) c (entered g x v.outputs)) shows.payload)
+  said_none : (v : EventView) (h : Event) → Among h run → Shows g v h → (c : Context)
+      → (enter_of g v c ≡ None) ⊎ Enters h c
+  said_none v (Looked n d t a) among shows c =
+      inl (ap (λ x. if_same (tag_of x) c (entered g x v.outputs)) shows.payload)
+  said_none v (Wrote n d u w a) among shows c =
+      inl (ap (λ x. if_same (tag_of x) c (entered g x v.outputs)) shows.payload)
   said_none v (Took n t p u Waits) among shows c = inl (silent v t p u c shows.payload shows.outputs)
   said_none v (Took n t p u Blocked) among shows c = inl (silent v t p u c shows.payload shows.outputs)
   said_none v (Took n t p u (Fires ops f)) among shows c =
@@ -206,7 +218,14 @@ module _ (g : Parts) (vs : List Constant) (count : ℕ) (s : World) (run : List 
         where
           there : enter_of g v c ≡ if_same t c (Some d)
           there =
-              tag_said (record { element = n; port = p; value = u; operands = ops; among = subst (λ z. Among (Took n t p u (Fires ops z)) run) is among }) v
+              tag_said (record {
+                element = n;
+                port = p;
+                value = u;
+                operands = ops;
+                among =
+                    subst (λ z. Among (Took n t p u (Fires ops z)) run) is among;
+              }) v
               (subst (λ z. Shows g v (Took n t p u (Fires ops z))) is shows) c
 
           go : (b : Bool) → same_context d c ≡ b → (enter_of g v c ≡ None) ⊎ (f ≡ fires.Entered c)
@@ -222,7 +241,8 @@ module _ (g : Parts) (vs : List Constant) (count : ℕ) (s : World) (run : List 
       let k = from_record g vs count s run r v (recorded s v h) in
       elim (said_none v k.0 k.1 k.2 c) [
         | inl none ↦ inl none
-        | inr enters ↦ inr (said_itself x v (subst (Shows g v) (apart.one k.0 (fired_event x) k.1 x.among c enters refl) k.2))
+        | inr enters ↦ inr
+            (said_itself x v (subst (Shows g v) (apart.one k.0 (fired_event x) k.1 x.among c enters refl) k.2))
       ])
 
   -- and main's was not entered
@@ -231,10 +251,12 @@ module _ (g : Parts) (vs : List Constant) (count : ℕ) (s : World) (run : List 
       enter_in-nothing g all main_context
       (λ v h.
       let k = from_record g vs count s run r v (recorded s v h) in
-      elim (said_none v k.0 k.1 k.2 main_context) [ inl none ↦ none | inr enters ↦ absurd (apart.not_main k.0 k.1 enters) ])
+      elim (said_none v k.0 k.1 k.2 main_context)
+      [ inl none ↦ none | inr enters ↦ absurd (apart.not_main k.0 k.1 enters) ])
 
   -- no more contexts were entered than there are events
-  pub few_entered : (os : List (Option Context)) → AllDiffer os → ((o : Option Context) → Among o os → WasEntered run o) → length os ≤ length all
+  pub few_entered : (os : List (Option Context)) → AllDiffer os → ((o : Option Context) → Among o os → WasEntered run o)
+      → length os ≤ length all
   few_entered os differ each =
       let f = λ (v : EventView). entered g v.message.payload v.outputs in
       subst (λ n. length os ≤ n) (length-map all f)
@@ -242,4 +264,5 @@ module _ (g : Parts) (vs : List Constant) (count : ℕ) (s : World) (run : List 
       (λ o h.
       let x = each o h in
       let z = to_record g vs count s run r (fired_event x.fires) (x.fires).among in
-      subst (λ w. Among w (map f all)) (entered_is x.fires z.0 z.2 ∙ sym x.is) (Among-map f z.0 all (among_events s z.0 z.1))))
+      subst (λ w. Among w (map f all)) (entered_is x.fires z.0 z.2 ∙ sym x.is)
+      (Among-map f z.0 all (among_events s z.0 z.1))))

@@ -21,10 +21,13 @@ use Rattle.id_value.proofs.AmongLemmas.{Among-either, Among-left, Among-map, Amo
 use Rattle.id_runs.specs.Events.{Event, FiresAs, fired_event, FiresOnce, GivesOn}
 
 -- how a firing under the tag sends the message: along an arc from the side on which it gives the value, along an arc at
--- the iteration to which it moves the value, to a tag, to start the block that it enters, or to a cell as a read or a write
+-- the iteration to which it moves the value, to a tag, to start the block that it enters, or to a cell as a read or a
+-- write
 pub data SentAs (g : Parts) (t : Tag) (f : Fired) (x : Payload) : Type 0 where
-  along : (b : Bool) (v : Value) (d : Dest) → GivesOn f b v → Among d (dests_at g t.instr b) → x ≡ token_to t v d → SentAs g t f x
-  moving : (i : ℕ) (v : Value) (d : Dest) → f ≡ fires.Moved i v → Among d (dests_at g t.instr true) → x ≡ token_to (moved_to t i) v d → SentAs g t f x
+  along : (b : Bool) (v : Value) (d : Dest) → GivesOn f b v → Among d (dests_at g t.instr b) → x ≡ token_to t v d
+      → SentAs g t f x
+  moving : (i : ℕ) (v : Value) (d : Dest) → f ≡ fires.Moved i v → Among d (dests_at g t.instr true)
+      → x ≡ token_to (moved_to t i) v d → SentAs g t f x
   to_tag : (u : Tag) (v : Value) → f ≡ fires.Sent u v → x ≡ Token u Zero v → SentAs g t f x
   to_start : (c : Context) → f ≡ fires.Entered c → Among x (started (op_at g t.instr) t c) → SentAs g t f x
   reading : (c : Cell) (u : Tag) → f ≡ fires.Asked c u → x ≡ Read c u → SentAs g t f x
@@ -44,7 +47,8 @@ sent_as g t (fires.Moved i v) x h =
     let d = Among-from_map (token_to (moved_to t i) v) x (dests_at g t.instr true) h in
     moving i v d.0 refl d.1 d.2
 sent_as g t (fires.Entered c) x h =
-    elim (Among-either x (map (token_to t (value.Context c)) (dests_at g t.instr true)) (started (op_at g t.instr) t c) h) [
+    elim (Among-either x (map (token_to t (value.Context c)) (dests_at g t.instr true)) (started (op_at g t.instr) t c)
+    h) [
       | inl a ↦ along_side g t (fires.Entered c) x true (value.Context c) (refl, refl) a
       | inr a ↦ to_start c refl a
     ]
@@ -61,13 +65,14 @@ to_each g t b c v w d side value h =
     (Among-map (token_to t w) d (dests_at g t.instr c) (subst (λ z. Among d (dests_at g t.instr z)) side h))
 
 -- a value that a firing gives on a side goes to each destination on it
-pub gives_sent : (g : Parts) (t : Tag) (f : Fired) (b : Bool) (v : Value) (d : Dest) → GivesOn f b v → Among d (dests_at g t.instr b)
-    → Among (token_to t v d) (sent_by g t f)
+pub gives_sent : (g : Parts) (t : Tag) (f : Fired) (b : Bool) (v : Value) (d : Dest) → GivesOn f b v
+    → Among d (dests_at g t.instr b) → Among (token_to t v d) (sent_by g t f)
 gives_sent g t (fires.Out w) b v d gives h = to_each g t b true v w d gives.0 gives.1 h
 gives_sent g t (fires.Side c w) b v d gives h = to_each g t b c v w d gives.0 gives.1 h
 gives_sent g t (fires.Moved i w) b v d gives h = absurd gives
 gives_sent g t (fires.Entered c) b v d gives h =
-    Among-left (token_to t v d) (map (token_to t (value.Context c)) (dests_at g t.instr true)) (started (op_at g t.instr) t c)
+    Among-left (token_to t v d) (map (token_to t (value.Context c)) (dests_at g t.instr true))
+    (started (op_at g t.instr) t c)
     (to_each g t b true v (value.Context c) d gives.0 gives.1 h)
 gives_sent g t (fires.Sent u w) b v d gives h = absurd gives
 gives_sent g t (fires.Asked c u) b v d gives h = absurd gives
@@ -93,12 +98,13 @@ gives_one (fires.Failed k) b c v w x y = absurd x
 gives_one fires.Nothing b c v w x y = absurd x
 
 -- one event fires once
-pub same_firing : {run : List Event} {t : Tag} {f f' : Fired} (x : FiresAs run t f) (y : FiresAs run t f') → fired_event x ≡ fired_event y → f ≡ f'
+pub same_firing : {run : List Event} {t : Tag} {f f' : Fired} (x : FiresAs run t f) (y : FiresAs run t f')
+    → fired_event x ≡ fired_event y → f ≡ f'
 same_firing x y e = cc
 
 -- so an instruction gives one value under a tag, on one side
-pub gives_once : {run : List Event} {t : Tag} {f f' : Fired} → FiresOnce run → FiresAs run t f → FiresAs run t f' → (b c : Bool) (v w : Value)
-    → GivesOn f b v → GivesOn f' c w → (b ≡ c) × (v ≡ w)
+pub gives_once : {run : List Event} {t : Tag} {f f' : Fired} → FiresOnce run → FiresAs run t f → FiresAs run t f'
+    → (b c : Bool) (v w : Value) → GivesOn f b v → GivesOn f' c w → (b ≡ c) × (v ≡ w)
 gives_once {t = t} {f = f} {f' = f'} once x y b c v w gives gives' =
     let same : f' ≡ f = sym (same_firing x y (once t f f' x y)) in
     gives_one f b c v w gives (subst (λ z. GivesOn z c w) same gives')

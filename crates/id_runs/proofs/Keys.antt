@@ -84,10 +84,13 @@ pub count_append : (k : Key) (xs ys : List Payload) → count_for k (xs ++ ys) �
 count_append k [] ys = omega (arith, count_none k)
 count_append k (x ∷ xs) ys = omega (arith, count_cons k x xs, count_cons k x (xs ++ ys), count_append k xs ys)
 
-pub count_remove : (k : Key) (x : Payload) (xs : List Payload) (n : ℕ) → slice_get xs n ≡ Some x → hit k x + count_for k (remove xs n) ≡ count_for k xs
+pub count_remove : (k : Key) (x : Payload) (xs : List Payload) (n : ℕ) → slice_get xs n ≡ Some x
+    → hit k x + count_for k (remove xs n) ≡ count_for k xs
 count_remove k x [] n e = cc
-count_remove k x (y ∷ xs) zero e = let is : y ≡ x = cc in ap (λ z. hit k z + count_for k xs) (sym is) ∙ sym (count_cons k y xs)
-count_remove k x (y ∷ xs) (suc n) e = omega (arith, count_remove k x xs n e, count_cons k y xs, count_cons k y (remove xs n))
+count_remove k x (y ∷ xs) zero e =
+    let is : y ≡ x = cc in ap (λ z. hit k z + count_for k xs) (sym is) ∙ sym (count_cons k y xs)
+count_remove k x (y ∷ xs) (suc n) e =
+    omega (arith, count_remove k x xs n e, count_cons k y xs, count_cons k y (remove xs n))
 
 pub counts : (k : Key) (x : Payload) (xs : List Payload) → Among x xs → key_of x ≡ k → 1 ≤ count_for k xs
 counts k x [] h e = absurd h
@@ -98,7 +101,8 @@ pub counted : (k : Key) (xs : List Payload) → 1 ≤ count_for k xs → (x : Pa
 counted k [] h = absurd (omega arith)
 counted k (x ∷ xs) h = go (hit k x) refl (counted k xs)
   where
-    go : (n : ℕ) → hit k x ≡ n → (1 ≤ count_for k xs → (y : Payload) × Among y xs × (key_of y ≡ k)) → (y : Payload) × Among y (x ∷ xs) × (key_of y ≡ k)
+    go : (n : ℕ) → hit k x ≡ n → (1 ≤ count_for k xs → (y : Payload) × Among y xs × (key_of y ≡ k))
+        → (y : Payload) × Among y (x ∷ xs) × (key_of y ≡ k)
     go zero e rest = let t = rest (omega (arith, count_cons k x xs)) in (t.0, inr t.1, t.2)
     go (suc n) e rest = (x, inl refl, hit_is k x (omega arith))
 
@@ -118,16 +122,19 @@ count_first k x xs few apart = go (hit k x) (count_for k xs) refl refl
         absurd (apart b.0 b.1 (hit_is k x (omega arith) ∙ sym b.2))
 
 -- where at most one has the key, two of them are one
-pub one_message : (k : Key) (x y : Payload) (xs : List Payload) → count_for k xs ≤ 1 → Among x xs → Among y xs → key_of x ≡ k → key_of y ≡ k → x ≡ y
+pub one_message : (k : Key) (x y : Payload) (xs : List Payload) → count_for k xs ≤ 1 → Among x xs → Among y xs
+    → key_of x ≡ k → key_of y ≡ k → x ≡ y
 one_message k x y [] few a b c d = absurd a
 one_message k x y (z ∷ xs) few (inl a) (inl b) c d = a ∙ sym b
-one_message k x y (z ∷ xs) few (inl a) (inr b) c d = absurd (omega (arith, count_cons k z xs, hit_itself k z (ap key_of (sym a) ∙ c), counts k y xs b d))
-one_message k x y (z ∷ xs) few (inr a) (inl b) c d = absurd (omega (arith, count_cons k z xs, hit_itself k z (ap key_of (sym b) ∙ d), counts k x xs a c))
+one_message k x y (z ∷ xs) few (inl a) (inr b) c d =
+    absurd (omega (arith, count_cons k z xs, hit_itself k z (ap key_of (sym a) ∙ c), counts k y xs b d))
+one_message k x y (z ∷ xs) few (inr a) (inl b) c d =
+    absurd (omega (arith, count_cons k z xs, hit_itself k z (ap key_of (sym b) ∙ d), counts k x xs a c))
 one_message k x y (z ∷ xs) few (inr a) (inr b) c d = one_message k x y xs (omega (arith, count_cons k z xs)) a b c d
 
 -- and so are two events that handled them
-pub one_event : (k : Key) (e f : Event) (run : List Event) → count_for k (handled run) ≤ 1 → Among e run → Among f run → key_of (payload_of e) ≡ k
-    → key_of (payload_of f) ≡ k → e ≡ f
+pub one_event : (k : Key) (e f : Event) (run : List Event) → count_for k (handled run) ≤ 1 → Among e run → Among f run
+    → key_of (payload_of e) ≡ k → key_of (payload_of f) ≡ k → e ≡ f
 one_event k e f [] few a b c d = absurd a
 one_event k e f (z ∷ run) few (inl a) (inl b) c d = a ∙ sym b
 one_event k e f (z ∷ run) few (inl a) (inr b) c d =
@@ -144,4 +151,5 @@ one_event k e f (z ∷ run) few (inr a) (inl b) c d =
       hit_itself k (payload_of z) (ap (λ y. key_of (payload_of y)) (sym b) ∙ d),
       counts k (payload_of e) (handled run) (Among-map payload_of e run a) c,
     ))
-one_event k e f (z ∷ run) few (inr a) (inr b) c d = one_event k e f run (omega (arith, count_cons k (payload_of z) (handled run))) a b c d
+one_event k e f (z ∷ run) few (inr a) (inr b) c d =
+    one_event k e f run (omega (arith, count_cons k (payload_of z) (handled run))) a b c d

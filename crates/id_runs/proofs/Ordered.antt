@@ -1,4 +1,5 @@
--- Lists in strict order: where no two items of a list tie, there is one of them, and what a test picks of it is what the
+-- Lists in strict order: where no two items of a list tie, there is one of them, and what a test picks of it is what
+-- the
 -- test picks of the list itself, where that is in order already.
 use Rattle.std.proofs.Common.{◌≡◌, Bool, true, false, cond, filter, List, [], ◌∷◌, ◌++◌, refl, sym, ap, subst, ◌∙◌}
 use Rattle.std.specs.Cmp.{IsTotalOrder}
@@ -15,7 +16,8 @@ use Rattle.id_observe.proofs.OrderedLemmas.{one_order}
 
 module _ {X : Type 0} where
   -- what is so of each item of a list is so of each of another order of it
-  pub each-permutation : (P : X → Type 0) (xs ys : List X) → IsPermutation xs ys → AllByRecursion P xs → AllByRecursion P ys
+  pub each-permutation : (P : X → Type 0) (xs ys : List X) → IsPermutation xs ys → AllByRecursion P xs
+      → AllByRecursion P ys
   each-permutation P xs ys h all =
       recursion_from_All P ys (All-permutation P xs ys h (All-from_recursion P xs all))
 
@@ -40,7 +42,8 @@ module _ {X : Type 0} where
     filter-both (x ∷ xs) ys = go (p x) (filter-both xs ys)
       where
         go : (b : Bool) → filter p (xs ++ ys) ≡ filter p xs ++ filter p ys
-            → cond b (x ∷ filter p (xs ++ ys)) (filter p (xs ++ ys)) ≡ cond b (x ∷ filter p xs) (filter p xs) ++ filter p ys
+            → cond b (x ∷ filter p (xs ++ ys)) (filter p (xs ++ ys)) ≡ cond b (x ∷ filter p xs) (filter p xs)
+            ++ filter p ys
         go true more = ap (λ zs. x ∷ zs) more
         go false more = more
 
@@ -63,12 +66,15 @@ module _ {X : Type 0} where
     pub apart-sorted : (xs : List X) → IsStrictlySortedBy R xs → AreApart xs
     unfolding IsStrictlySortedBy
     apart-sorted [] s = tt
-    apart-sorted (x ∷ xs) s =
-        (each-weaker (λ y. R x y ≡ Less) (λ y. R x y ≡ Equal → ⊥) (λ y less equal. absurd cc) xs s.0, apart-sorted xs s.1)
+    apart-sorted (x ∷ xs) s = (
+      each-weaker (λ y. R x y ≡ Less) (λ y. R x y ≡ Equal → ⊥) (λ y less equal. absurd cc) xs s.0,
+      apart-sorted xs s.1,
+    )
 
     -- ---- one more item
 
-    -- the list in order with one more item: what a test picks of it begins with that item, if that is below what the test
+    -- the list in order with one more item: what a test picks of it begins with that item, if that is below what the
+    -- test
     -- picks of the others
     record Put (x : X) (ys : List X) : Type 0 where
       list : List X
@@ -155,10 +161,12 @@ module _ {X : Type 0} where
     sorting [] apart = record { list = []; all = IsPermutation-refl []; sorted = tt; picks = λ p s. refl }
     sorting (x ∷ xs) apart =
         let rest = sorting xs apart.1 in
-        let more = put-in x rest.list rest.sorted (each-permutation (λ y. R x y ≡ Equal → ⊥) xs rest.list rest.all apart.0) in
+        let more =
+        put-in x rest.list rest.sorted (each-permutation (λ y. R x y ≡ Equal → ⊥) xs rest.list rest.all apart.0) in
         record {
           list = more.list;
-          all = IsPermutation-trans (x ∷ xs) (x ∷ rest.list) more.list (IsPermutation-cons x xs rest.list rest.all) more.all;
+          all = IsPermutation-trans (x ∷ xs) (x ∷ rest.list) more.list (IsPermutation-cons x xs rest.list rest.all)
+              more.all;
           sorted = more.sorted;
           picks = λ p s.
               let same = rest.picks p (picked-rest p x xs s) in

@@ -60,7 +60,8 @@ own k [] each = tt
 own k (s ∷ ss) each =
     let here : k + 0 ≡ k = omega arith in (
       subst (λ j. IsOwn j s) here (each 0 s refl),
-      own (suc k) ss (λ n q at. let e : k + suc n ≡ suc k + n = omega arith in subst (λ j. IsOwn j q) e (each (suc n) q at)),
+      own (suc k) ss (λ n q at. let e : k + suc n ≡ suc k + n = omega arith in
+          subst (λ j. IsOwn j q) e (each (suc n) q at)),
     )
 
 from_first : (k : ℕ) (ss : List State) → AreOwn k ss → AllByRecursion (λ v. k ≤ v.element) (events_of ss)
@@ -68,14 +69,16 @@ from_first k [] h = tt
 from_first k (s ∷ ss) h =
     each-append (λ (v : EventView). k ≤ v.element) s.events (events_of ss)
     (each-weaker (λ v. v.element ≡ k) (λ v. k ≤ v.element) (λ v e. omega arith) s.events h.0.own)
-    (each-weaker (λ v. suc k ≤ v.element) (λ v. k ≤ v.element) (λ v e. omega arith) (events_of ss) (from_first (suc k) ss h.1))
+    (each-weaker (λ v. suc k ≤ v.element) (λ v. k ≤ v.element) (λ v e. omega arith) (events_of ss)
+    (from_first (suc k) ss h.1))
 
 below_end : (k : ℕ) (ss : List State) → AreOwn k ss → AllByRecursion (λ v. v.element < k + length ss) (events_of ss)
 below_end k [] h = tt
 below_end k (s ∷ ss) h =
     each-append (λ (v : EventView). v.element < k + length (s ∷ ss)) s.events (events_of ss)
     (each-weaker (λ v. v.element ≡ k) (λ v. v.element < k + length (s ∷ ss)) (λ v e. omega arith) s.events h.0.own)
-    (each-weaker (λ v. v.element < suc k + length ss) (λ v. v.element < k + length (s ∷ ss)) (λ v e. omega arith) (events_of ss)
+    (each-weaker (λ v. v.element < suc k + length ss) (λ v. v.element < k + length (s ∷ ss)) (λ v e. omega arith)
+    (events_of ss)
     (below_end (suc k) ss h.1))
 
 -- what is picked for one element of all events is its record
@@ -85,23 +88,27 @@ own_events k [] h n s at = absurd cc
 own_events k (r ∷ ss) h zero s at =
     let here : r ≡ s = cc in
     let all = all-pass (of_element (k + 0)) r.events
-    (each-weaker (λ v. v.element ≡ k) (λ v. of_element (k + 0) v ≡ true) (λ v e. mine (k + 0) v (omega arith)) r.events h.0.own) in
+    (each-weaker (λ v. v.element ≡ k) (λ v. of_element (k + 0) v ≡ true) (λ v e. mine (k + 0) v (omega arith)) r.events
+    h.0.own) in
     let rest = none-passes (of_element (k + 0)) (events_of ss)
-    (each-weaker (λ v. suc k ≤ v.element) (λ v. of_element (k + 0) v ≡ false) (λ v e. other (k + 0) v (λ q. omega arith)) (events_of ss)
+    (each-weaker (λ v. suc k ≤ v.element) (λ v. of_element (k + 0) v ≡ false)
+    (λ v e. other (k + 0) v (λ q. omega arith)) (events_of ss)
     (from_first (suc k) ss h.1)) in
     filter-both (of_element (k + 0)) r.events (events_of ss)
-    ∙ ap (λ vs. vs ++ filter (of_element (k + 0)) (events_of ss)) all ∙ ap (λ vs. r.events ++ vs) rest ∙ append-nil r.events
-    ∙ ap (λ (x : State). x.events) here
+    ∙ ap (λ vs. vs ++ filter (of_element (k + 0)) (events_of ss)) all ∙ ap (λ vs. r.events ++ vs) rest
+    ∙ append-nil r.events ∙ ap (λ (x : State). x.events) here
 own_events k (r ∷ ss) h (suc n) s at =
     let e : suc k + n ≡ k + suc n = omega arith in
     let first = none-passes (of_element (k + suc n)) r.events
-    (each-weaker (λ v. v.element ≡ k) (λ v. of_element (k + suc n) v ≡ false) (λ v q. other (k + suc n) v (λ x. omega arith)) r.events
+    (each-weaker (λ v. v.element ≡ k) (λ v. of_element (k + suc n) v ≡ false)
+    (λ v q. other (k + suc n) v (λ x. omega arith)) r.events
     h.0.own) in
     filter-both (of_element (k + suc n)) r.events (events_of ss)
     ∙ ap (λ vs. vs ++ filter (of_element (k + suc n)) (events_of ss)) first
     ∙ subst (λ j. filter (of_element j) (events_of ss) ≡ s.events) e (own_events (suc k) ss h.1 n s at)
 
-each_event : (P : EventView → Type 0) (ss : List State) → ((n : ℕ) (s : State) → slice_get ss n ≡ Some s → AllByRecursion P s.events)
+each_event : (P : EventView → Type 0) (ss : List State)
+    → ((n : ℕ) (s : State) → slice_get ss n ≡ Some s → AllByRecursion P s.events)
     → AllByRecursion P (events_of ss)
 each_event P [] each = tt
 each_event P (s ∷ ss) each =
@@ -118,16 +125,20 @@ one_element x y equal = grind (arith, nat_tests)
 rises : (vs : List EventView) → IsStrictlySortedBy by_moment vs → Rises stamp_of vs
 unfolding IsStrictlySortedBy
 rises [] s = tt
-rises (v ∷ vs) s =
-    (each-weaker (λ u. by_moment v u ≡ Less) (λ u. v.stamp ≤ u.stamp) (λ u less. not_later v u less) vs s.0, rises vs s.1)
+rises (v ∷ vs) s = (
+  each-weaker (λ u. by_moment v u ≡ Less) (λ u. v.stamp ≤ u.stamp) (λ u less. not_later v u less) vs s.0,
+  rises vs s.1,
+)
 
 apart : (k : ℕ) (ss : List State) → AreOwn k ss → AreApart by_moment_total (events_of ss)
 apart k [] h = tt
 apart k (s ∷ ss) h =
-    apart-both by_moment_total s.events (events_of ss) (apart-sorted by_moment_total s.events h.0.sorted) (apart (suc k) ss h.1)
+    apart-both by_moment_total s.events (events_of ss) (apart-sorted by_moment_total s.events h.0.sorted)
+    (apart (suc k) ss h.1)
     (each-weaker (λ x. x.element ≡ k) (λ x. AllByRecursion (λ y. by_moment x y ≡ Equal → ⊥) (events_of ss))
     (λ x e. each-weaker (λ y. suc k ≤ y.element) (λ y. by_moment x y ≡ Equal → ⊥)
-    (λ y le equal. let same = one_element x y equal in omega arith) (events_of ss) (from_first (suc k) ss h.1)) s.events h.0.own)
+    (λ y le equal. let same = one_element x y equal in omega arith) (events_of ss) (from_first (suc k) ss h.1)) s.events
+    h.0.own)
 
 module _ (g : Parts) (count : ℕ) where
   -- ---- each element's events lead it on
@@ -180,8 +191,8 @@ module _ (g : Parts) (count : ℕ) where
     is_next : IsNext g count n state v
     on : AreLeading k (slice_set us i (state_after g n state v.message)) vs ss
 
-  following : (k i n : ℕ) (us : List State) (v : EventView) (vs : List EventView) (ss : List State) → n ≡ k + i → v.element ≡ n
-      → i < length ss → AreLeading k us (v ∷ vs) ss → Following k i n us v vs ss
+  following : (k i n : ℕ) (us : List State) (v : EventView) (vs : List EventView) (ss : List State) → n ≡ k + i
+      → v.element ≡ n → i < length ss → AreLeading k us (v ∷ vs) ss → Following k i n us v vs ss
   following k i n [] v vs [] num of lt h = absurd (omega arith)
   following k i n [] v vs (s ∷ ss) num of lt h = absurd h
   following k i n (u ∷ us) v vs [] num of lt h = absurd h
@@ -212,7 +223,8 @@ module _ (g : Parts) (count : ℕ) where
       → AllByRecursion (λ v. v.element < length ss) vs → Flies message_of sent_by_event ms vs end
       → LeadTo g count (record { elements = us; flight = ms }) vs (record { elements = ss; flight = end })
   leads_on us ss ms end [] h below flight.no_more =
-      subst (λ (xs : List State). LeadTo g count (record { elements = us; flight = ms }) [] (record { elements = xs; flight = ms }))
+      subst (λ (xs : List State). LeadTo g count (record { elements = us; flight = ms }) []
+      (record { elements = xs; flight = ms }))
       (ended 0 us ss h) no_more
   leads_on us ss ms end (v ∷ vs) h below (flight.follow others flying on) =
       let f = following 0 v.element v.element us v vs ss (omega arith) refl below.0 h in
@@ -253,7 +265,8 @@ module _ (g : Parts) (count : ℕ) where
         let e : n ≡ 0 + n = omega arith in
         let mine = own_events 0 ss owned n s at in
         let sorted = (is_own g count n s (led n s at)).sorted in
-        let same = picked by_moment_total (of_element (0 + n)) (events_of ss) es (apart 0 ss owned) merged.all merged.sorted
+        let same =
+        picked by_moment_total (of_element (0 + n)) (events_of ss) es (apart 0 ss owned) merged.all merged.sorted
         (subst (IsStrictlySortedBy by_moment) (sym mine) sorted) in
         subst (λ vs. Leads g count (0 + n) fresh vs s) (sym (same ∙ mine))
         (subst (λ j. Leads g count j fresh s.events s) e (led n s at)))
@@ -287,7 +300,8 @@ legal_order g vs count w h accounted es merged =
     let below = each-permutation (λ v. v.element < length w.elements) (events_of w.elements) es merged.all
     (each-weaker (λ v. v.element < 0 + length w.elements) (λ v. v.element < length w.elements) (λ v lt. omega arith)
     (events_of w.elements) (below_end 0 w.elements (owned g count w.elements h))) in
-    let r = flies told message_of sent_by_event stamp_of stamp_in (start_messages g vs) es w.flight (rises es merged.sorted) all (λ f.
+    let r = flies told message_of sent_by_event stamp_of stamp_in (start_messages g vs) es w.flight
+    (rises es merged.sorted) all (λ f.
     let a = accounted f in
     let s = sent_is f w.elements es merged in
     let t = taken_is f w.elements es merged in
@@ -323,7 +337,8 @@ among_left g vs w accounted m among =
     ∙ sum_same (λ (s : State). sum_by (λ v. sum_by (is told m) (sent_by_event v)) s.events)
     (λ (s : State). sum_by (is told m) (flat_map sent_by_event s.events)) w.elements
     (λ s. sym (sum_flat (is told m) sent_by_event s.events)) in
-    ⊎_elim (λ (here : 0 < sum_by (is told m) (start_messages g vs)). inl (among_weight told m (start_messages g vs) here))
+    ⊎_elim (λ (here : 0 < sum_by (is told m) (start_messages g vs)). inl
+    (among_weight told m (start_messages g vs) here))
     (λ (none : sum_by (is told m) (start_messages g vs) ≤ 0).
     inr (among_weight told m (flat_map sent_by_event (events_of w.elements)) (omega (arith, a, some, sent))))
     (cases_lt 0 (sum_by (is told m) (start_messages g vs)))

@@ -122,8 +122,15 @@ module _ (g : Parts) (count n : ℕ) where
   rising s e (v ∷ vs) h =
       let stamp : max s.stamp v.message.stamp + 1 ≡ v.stamp = ap stamp_of h.0.made in
       let r = rising (state_after g n s v.message) e vs h.1 in (
-        (omega arith, each-weaker (λ u. next_stamp s v.message < u.stamp) (λ u. s.stamp < u.stamp) (λ u lt. omega arith) vs r.0),
-        (each-weaker (λ u. next_stamp s v.message < u.stamp) (λ u. by_moment v u ≡ Less) (λ u lt. earlier_stamp v u (omega arith)) vs r.0, r.1),
+        (
+          omega arith,
+          each-weaker (λ u. next_stamp s v.message < u.stamp) (λ u. s.stamp < u.stamp) (λ u lt. omega arith) vs r.0,
+        ),
+        (
+          each-weaker (λ u. next_stamp s v.message < u.stamp) (λ u. by_moment v u ≡ Less)
+              (λ u lt. earlier_stamp v u (omega arith)) vs r.0,
+          r.1,
+        ),
       )
 
   pub own : (s e : State) (vs : List EventView) → Leads s vs e → AllByRecursion (λ v. v.element ≡ n) vs
@@ -138,4 +145,5 @@ pub record IsOwn (n : ℕ) (s : State) : Type 0 where
   pub own : AllByRecursion (λ v. v.element ≡ n) s.events
 
 pub is_own : (g : Parts) (count n : ℕ) (s : State) → Leads g count n fresh s.events s → IsOwn n s
-is_own g count n s h = record { sorted = (rising g count n fresh s s.events h).1; own = own g count n fresh s s.events h }
+is_own g count n s h =
+    record { sorted = (rising g count n fresh s s.events h).1; own = own g count n fresh s s.events h }

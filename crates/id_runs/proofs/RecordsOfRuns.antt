@@ -55,16 +55,20 @@ module _ (g : Parts) (vs : List Constant) (count : ℕ) where
   }
 
   -- each event of a record is one of the run
-  pub from_record : (s : World) (run : List Event) → Reach g vs count s run → (v : EventView) → Recorded s v → (h : Event) × Among h run × Shows g v h
+  pub from_record : (s : World) (run : List Event) → Reach g vs count s run → (v : EventView) → Recorded s v
+      → (h : Event) × Among h run × Shows g v h
   from_record s run begin v r = absurd (unrecorded count r.element r.state v r.at r.among)
   from_record s run (deliver {s = s₀} {run = run₀} k m e r f q) v w =
       let n = route_of m.payload count in
       let new = happens g n e m.payload in
-      let old = λ (y : Recorded s₀ v). (let t = from_record s₀ run₀ r v y in let z : (h : Event) × Among h (new ∷ run₀) × Shows g v h = (t.0, inr t.1, t.2) in
+      let old =
+      λ (y : Recorded s₀ v). (let t = from_record s₀ run₀ r v y in
+      let z : (h : Event) × Among h (new ∷ run₀) × Shows g v h = (t.0, inr t.1, t.2) in
       z) in
       elim (slice_get-set s₀.elements n w.element (state_after g n e m) w.state w.at) [
         | inl is ↦
-            elim (Among-either v e.events (event_of g n e m ∷ []) (subst (λ (y : State). Among v y.events) is.1 w.among)) [
+            elim (Among-either v e.events (event_of g n e m ∷ [])
+            (subst (λ (y : State). Among v y.events) is.1 w.among)) [
               | inl before ↦ old (record { element = n; state = e; at = q; among = before })
               | inr now ↦ elim now [
                 | inl one ↦ (new, inl refl, subst (λ (y : EventView). Shows g y new) (sym one) (shown_now n e m))
@@ -74,8 +78,9 @@ module _ (g : Parts) (vs : List Constant) (count : ℕ) where
         | inr at ↦ old (record { element = w.element; state = w.state; at = at; among = w.among })
       ]
 
-  record_on : (s s' : World) (n : ℕ) (e e' : State) (v : EventView) → slice_get s.elements n ≡ Some e → s'.elements ≡ set s.elements n e'
-      → ((u : EventView) → Among u e.events → Among u e'.events) → Recorded s v → Recorded s' v
+  record_on : (s s' : World) (n : ℕ) (e e' : State) (v : EventView) → slice_get s.elements n ≡ Some e
+      → s'.elements ≡ set s.elements n e' → ((u : EventView) → Among u e.events → Among u e'.events) → Recorded s v
+      → Recorded s' v
   record_on s s' n e e' v at is grows w =
       elim (cases_eq w.element n) [
         | inl here ↦
@@ -96,7 +101,8 @@ module _ (g : Parts) (vs : List Constant) (count : ℕ) where
       ]
 
   -- each event of the run is in a record
-  pub to_record : (s : World) (run : List Event) → Reach g vs count s run → (h : Event) → Among h run → (v : EventView) × Recorded s v × Shows g v h
+  pub to_record : (s : World) (run : List Event) → Reach g vs count s run → (h : Event) → Among h run
+      → (v : EventView) × Recorded s v × Shows g v h
   to_record s run begin h a = absurd a
   to_record s run (deliver {s = s₀} {run = run₀} k m e r f q) h (inl is) =
       let n = route_of m.payload count in
@@ -124,9 +130,11 @@ record_of e = e.events
 
 record_cons : (e : State) (es : List State) (s : World) (v : EventView) → s.elements ≡ e ∷ es
     → ((n : ℕ) × (x : State) × (slice_get es n ≡ Some x) × Among v x.events) → Recorded s v
-record_cons e es s v is t = record { element = suc t.0; state = t.1; at = ap (λ xs. slice_get xs (suc t.0)) is ∙ t.2; among = t.3 }
+record_cons e es s v is t =
+    record { element = suc t.0; state = t.1; at = ap (λ xs. slice_get xs (suc t.0)) is ∙ t.2; among = t.3 }
 
-among_records : (es : List State) (v : EventView) → Among v (events_of es) → (n : ℕ) × (x : State) × (slice_get es n ≡ Some x) × Among v x.events
+among_records : (es : List State) (v : EventView) → Among v (events_of es)
+    → (n : ℕ) × (x : State) × (slice_get es n ≡ Some x) × Among v x.events
 among_records [] v h = absurd h
 among_records (e ∷ es) v h =
     elim (Among-either v e.events (events_of es) h) [
@@ -137,25 +145,30 @@ among_records (e ∷ es) v h =
 pub recorded : (s : World) (v : EventView) → Among v (events_of s.elements) → Recorded s v
 recorded s v h = let t = among_records s.elements v h in record { element = t.0; state = t.1; at = t.2; among = t.3 }
 
-records_have : (es : List State) (n : ℕ) (x : State) (v : EventView) → slice_get es n ≡ Some x → Among v x.events → Among v (events_of es)
+records_have : (es : List State) (n : ℕ) (x : State) (v : EventView) → slice_get es n ≡ Some x → Among v x.events
+    → Among v (events_of es)
 records_have [] n x v e a = cc
-records_have (y ∷ es) zero x v e a = let is : y ≡ x = cc in Among-left v y.events (events_of es) (subst (λ (z : State). Among v z.events) (sym is) a)
+records_have (y ∷ es) zero x v e a =
+    let is : y ≡ x = cc in Among-left v y.events (events_of es) (subst (λ (z : State). Among v z.events) (sym is) a)
 records_have (y ∷ es) (suc n) x v e a = Among-right v y.events (events_of es) (records_have es n x v e a)
 
 pub among_events : (s : World) (v : EventView) → Recorded s v → Among v (events_of s.elements)
 among_events s v r = records_have s.elements r.element r.state v r.at r.among
 
-pub among_filter_map : {A B : Type 0} (f : A → Option B) (xs : List A) (y : B) → Among y (filter_map f xs) → (x : A) × Among x xs × (f x ≡ Some y)
+pub among_filter_map : {A B : Type 0} (f : A → Option B) (xs : List A) (y : B) → Among y (filter_map f xs)
+    → (x : A) × Among x xs × (f x ≡ Some y)
 among_filter_map f [] y h = absurd h
 among_filter_map {A} {B} f (x ∷ xs) y h = go (f x) refl h (among_filter_map f xs y)
   where
-    go : (o : Option B) → f x ≡ o → Among y (cons_option o (filter_map f xs)) → (Among y (filter_map f xs) → (z : A) × Among z xs × (f z ≡ Some y))
+    go : (o : Option B) → f x ≡ o → Among y (cons_option o (filter_map f xs))
+        → (Among y (filter_map f xs) → (z : A) × Among z xs × (f z ≡ Some y))
         → (z : A) × Among z (x ∷ xs) × (f z ≡ Some y)
     go None e k rest = let t = rest k in (t.0, inr t.1, t.2)
     go (Some z) e (inl is) rest = (x, inl refl, e ∙ ap Some (sym is))
     go (Some z) e (inr k) rest = let t = rest k in (t.0, inr t.1, t.2)
 
-pub filter_map_has : {A B : Type 0} (f : A → Option B) (xs : List A) (x : A) (y : B) → Among x xs → f x ≡ Some y → Among y (filter_map f xs)
+pub filter_map_has : {A B : Type 0} (f : A → Option B) (xs : List A) (x : A) (y : B) → Among x xs → f x ≡ Some y
+    → Among y (filter_map f xs)
 filter_map_has f [] x y h e = absurd h
 filter_map_has {A} {B} f (z ∷ xs) x y (inl is) e = go (f z) (ap f (sym is) ∙ e)
   where
@@ -169,7 +182,8 @@ filter_map_has {A} {B} f (z ∷ xs) x y (inr h) e = go (f z) (filter_map_has f x
     go (Some w) k = inr k
 
 -- what was handled was handled by an event
-pub among_from_handled : (run : List Event) (x : Payload) → Among x (map payload_of run) → (h : Event) × Among h run × (x ≡ payload_of h)
+pub among_from_handled : (run : List Event) (x : Payload) → Among x (map payload_of run)
+    → (h : Event) × Among h run × (x ≡ payload_of h)
 among_from_handled run x h = Among-from_map payload_of x run h
 
 -- ---- the records count as the run
@@ -181,7 +195,8 @@ nothing_told : (n : ℕ) → told (events_of (replicate n fresh)) ≡ []
 nothing_told zero = refl
 nothing_told (suc n) = nothing_told n
 
-told_append : (vs ws : List EventView) (j : Key) → count_for j (told (vs ++ ws)) ≡ count_for j (told vs) + count_for j (told ws)
+told_append : (vs ws : List EventView) (j : Key)
+    → count_for j (told (vs ++ ws)) ≡ count_for j (told vs) + count_for j (told ws)
 told_append vs ws j = ap (count_for j) (map-append (λ v. v.message.payload) vs ws) ∙ count_append j (told vs) (told ws)
 
 -- where one element's record counts so many more, so do all
@@ -191,17 +206,26 @@ told_more : (es : List State) (n : ℕ) (e e' : State) (j : Key) (c : ℕ) → s
 told_more [] n e e' j c at more = cc
 told_more (y ∷ es) zero e e' j c at more =
     let is : y ≡ e = cc in
-    let here : count_for j (told y.events) ≡ count_for j (told e.events) = ap (λ (z : State). count_for j (told z.events)) is in
+    let here : count_for j (told y.events) ≡ count_for j (told e.events) =
+    ap (λ (z : State). count_for j (told z.events)) is in
     omega (arith, told_append e'.events (events_of es) j, told_append y.events (events_of es) j)
 told_more (y ∷ es) (suc n) e e' j c at more =
-    omega (arith, told_append y.events (events_of (set es n e')) j, told_append y.events (events_of es) j, told_more es n e e' j c at more)
+    omega (
+      arith,
+      told_append y.events (events_of (set es n e')) j,
+      told_append y.events (events_of es) j,
+      told_more es n e e' j c at more,
+    )
 
 module _ (g : Parts) (vs : List Constant) (count : ℕ) where
   -- one event more
-  told_step : (n : ℕ) (e : State) (m : Message) (j : Key) → count_for j (told (state_after g n e m).events) ≡ hit j m.payload + count_for j (told e.events)
-  told_step n e m j = omega (arith, told_append e.events (event_of g n e m ∷ []) j, count_cons j m.payload [], count_none j)
+  told_step : (n : ℕ) (e : State) (m : Message) (j : Key)
+      → count_for j (told (state_after g n e m).events) ≡ hit j m.payload + count_for j (told e.events)
+  told_step n e m j =
+      omega (arith, told_append e.events (event_of g n e m ∷ []) j, count_cons j m.payload [], count_none j)
 
-  pub told_all : (s : World) (run : List Event) → Reach g vs count s run → (j : Key) → count_for j (told (events_of s.elements)) ≡ count_for j (handled run)
+  pub told_all : (s : World) (run : List Event) → Reach g vs count s run → (j : Key)
+      → count_for j (told (events_of s.elements)) ≡ count_for j (handled run)
   told_all s run begin j = ap (count_for j) (nothing_told count)
   told_all s run (deliver {s = s₀} {run = run₀} k m e r f q) j =
       let n = route_of m.payload count in
@@ -215,7 +239,8 @@ module _ (g : Parts) (vs : List Constant) (count : ℕ) where
       )
 
   -- where each key comes at most once, the records have it at most once
-  pub told_once : Exclusive g vs count → (s : World) (run : List Event) → Reach g vs count s run → (j : Key) → count_for j (told (events_of s.elements)) ≤ 1
+  pub told_once : Exclusive g vs count → (s : World) (run : List Event) → Reach g vs count s run → (j : Key)
+      → count_for j (told (events_of s.elements)) ≤ 1
   told_once only s run r j = omega (arith, told_all s run r j, few g vs count only s run r j)
 
 -- ---- quiet runs
@@ -227,12 +252,13 @@ of_all Q (y ∷ xs) x all (inl e) = subst Q (sym e) (all 0 y (omega arith))
 of_all Q (y ∷ xs) x all (inr h) = of_all Q xs x (λ k d lt. all (suc k) d (omega arith)) h
 
 -- no event of a quiet run was a fault or `Stuck`
-pub quiet_went : (g : Parts) (vs : List Constant) (count : ℕ) (s : World) (run : List Event) → Reach g vs count s run → IsQuiet s → (e : Event)
-    → Among e run → came_to e ≡ Went
+pub quiet_went : (g : Parts) (vs : List Constant) (count : ℕ) (s : World) (run : List Event) → Reach g vs count s run
+    → IsQuiet s → (e : Event) → Among e run → came_to e ≡ Went
 quiet_went g vs count s run r quiet e among =
     let x = to_record g vs count s run r e among in
     let w = x.1 in
     sym (x.2).step
     ∙ of_all (λ (u : EventView). u.step ≡ Went) (w.state).events x.0
-    (of_all (λ (y : State). All (λ (u : EventView). u.step ≡ Went) y.events) s.elements w.state quiet.went (Among-from_at w.state s.elements w.element w.at))
+    (of_all (λ (y : State). All (λ (u : EventView). u.step ≡ Went) y.events) s.elements w.state quiet.went
+    (Among-from_at w.state s.elements w.element w.at))
     w.among

@@ -10,7 +10,8 @@ use Rattle.id_runs.specs.Runs.{Reached, begin, deliver}
 
 module _ (g : Parts) (vs : List Constant) (count : ℕ) where
   given : (k : ℕ) (s : World) (m : Message) (o : Option State) → Reached g vs count s → slice_get s.flight k ≡ Some m
-      → slice_get s.elements (route_of m.payload count) ≡ o → Reached g vs count (given_to g k s m (route_of m.payload count) o)
+      → slice_get s.elements (route_of m.payload count) ≡ o
+      → Reached g vs count (given_to g k s m (route_of m.payload count) o)
   given k s m None r f e = r
   given k s m (Some x) r f e = go (is_ended x m)
     where
@@ -18,7 +19,8 @@ module _ (g : Parts) (vs : List Constant) (count : ℕ) where
       go true = r
       go false = record { events = _; reach = deliver k m x r.reach f e }
 
-  routed : (k : ℕ) (s : World) (o : Option Message) → Reached g vs count s → slice_get s.flight k ≡ o → Reached g vs count (routed_to g count k s o)
+  routed : (k : ℕ) (s : World) (o : Option Message) → Reached g vs count s → slice_get s.flight k ≡ o
+      → Reached g vs count (routed_to g count k s o)
   routed k s None r f = r
   routed k s (Some m) r f = given k s m _ r f refl
 

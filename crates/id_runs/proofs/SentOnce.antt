@@ -1,4 +1,5 @@
--- An event sends at most one message for a key, where the destinations of an instruction on one side differ, and each key was handled once.
+-- An event sends at most one message for a key, where the destinations of an instruction on one side differ, and each
+-- key was handled once.
 use Rattle.std.proofs.Common.{◌≡◌, inl, inr, ℕ, zero, suc, ◌+◌, ◌≤◌, Bool, true, false, cond, Option, Some, None}
 use Rattle.std.proofs.Common.{List, [], ◌∷◌, ◌++◌, map, refl, sym, ◌∙◌, ap, subst, arith}
 use Rattle.std.proofs.lemmas.List.{map-append}
@@ -12,7 +13,8 @@ use Rattle.id_tag.specs.declared.Value.{Value}
 use Rattle.id_tag.specs.declared.Value.TheVariants as value
 use Rattle.id_tag.specs.declared.Payload.{Payload}
 use Rattle.id_instr.specs.declared.instr.Op.{Op}
-use Rattle.id_instr.specs.declared.instr.Op.TheVariants.{Const, Unary, Binary, Merge, Switch, Back, Enter, Send, Next, Reset, Alloc, Address, Fetch, Store}
+use Rattle.id_instr.specs.declared.instr.Op.TheVariants.{Const, Unary, Binary, Merge, Switch, Back, Enter, Send, Next}
+use Rattle.id_instr.specs.declared.instr.Op.TheVariants.{Reset, Alloc, Address, Fetch, Store}
 use Rattle.id_valid.specs.Roles.{op_at}
 use Rattle.id_tag.specs.declared.Payload.TheVariants.{Token, Read, Write}
 use Rattle.id_ops.specs.declared.Fired.{Fired}
@@ -35,7 +37,8 @@ use Rattle.id_runs.specs.Runs.{Reach, handled}
 use Rattle.id_runs.specs.Cells.{held, put_off, cell_at}
 use Rattle.id_runs.specs.Keys.{Key, AtPort, ByFetch, ByStore, key_of}
 use Rattle.id_runs.specs.OneMessage.{count_for, Few}
-use Rattle.id_runs.proofs.Keys.{hit, hit_itself, hit_is, hit_small, count_none, count_cons, count_one, count_first, count_append, counted}
+use Rattle.id_runs.proofs.Keys.{hit, hit_itself, hit_is, hit_small, count_none, count_cons, count_one, count_first}
+use Rattle.id_runs.proofs.Keys.{count_append, counted}
 use Rattle.id_runs.proofs.Cells.{cells_exact}
 use Rattle.id_runs.proofs.CellLaws.{whole_list}
 
@@ -79,7 +82,8 @@ started_apart k (Some (Fetch nested r)) t c = omega (arith, count_none k)
 started_apart k (Some (Store nested)) t c = omega (arith, count_none k)
 
 -- and they are in the context
-started_within : (o : Option Op) (t : Tag) (c : Context) (x : Payload) → Among x (started o t c) → (tag_of x).context ≡ c
+started_within : (o : Option Op) (t : Tag) (c : Context) (x : Payload) → Among x (started o t c)
+    → (tag_of x).context ≡ c
 started_within None t c x h = absurd h
 started_within (Some (Enter b r)) t c x (inl e) = ap (λ y. (tag_of y).context) e
 started_within (Some (Enter b r)) t c x (inr h) = ap (λ y. (tag_of y).context) (Among-one x _ h)
@@ -122,16 +126,19 @@ apart_lists k xs ys few few' differ = go (count_for k xs) (count_for k ys) refl 
         let b = counted k ys (omega arith) in
         absurd (differ a.0 b.0 a.1 b.1 (a.2 ∙ sym b.2))
 
-entered_apart : (k : Key) (o : Option Op) (u : Tag) (ds : List Dest) (c : Context) → AllDiffer ds → (c ≡ u.context → ⊥) →
+entered_apart : (k : Key) (o : Option Op) (u : Tag) (ds : List Dest) (c : Context) → AllDiffer ds → (c ≡ u.context → ⊥)
+    →
     count_for k (sent o ds u (fires.Entered c)) ≤ 1
 entered_apart k o u ds c differ elsewhere =
-    apart_lists k (map (token_to u (value.Context c)) ds) (started o u c) (dests_apart k u (value.Context c) ds differ) (started_apart k o u c)
+    apart_lists k (map (token_to u (value.Context c)) ds) (started o u c) (dests_apart k u (value.Context c) ds differ)
+    (started_apart k o u c)
     (λ x y a b e.
     let d = Among-from_map (token_to u (value.Context c)) x ds a in
     let of_dest : (tag_of x).context ≡ u.context = ap (λ z. (tag_of z).context) d.2 in
     elsewhere (sym (started_within o u c y b) ∙ sym (ap (λ (t : Tag). t.context) (tag_of_key x y e)) ∙ of_dest))
 
-sent_apart : (k : Key) (o : Option Op) (u : Tag) (ds : List Dest) (f : Fired) → AllDiffer ds → ((c : Context) → f ≡ fires.Entered c → c ≡ u.context → ⊥)
+sent_apart : (k : Key) (o : Option Op) (u : Tag) (ds : List Dest) (f : Fired) → AllDiffer ds
+    → ((c : Context) → f ≡ fires.Entered c → c ≡ u.context → ⊥)
     → count_for k (sent o ds u f) ≤ 1
 sent_apart k o u ds (fires.Out v) differ elsewhere = dests_apart k u v ds differ
 sent_apart k o u ds (fires.Side b v) differ elsewhere = dests_apart k u v ds differ
@@ -153,23 +160,27 @@ answers v ts = map (λ t. Token t Zero v) ts
 hit_answer : (t u : Tag) (v : Value) (c : Cell) → hit (AtPort t Zero) (Token u Zero v) ≤ hit (ByFetch t) (Read c u)
 hit_answer t u v c = go (hit (AtPort t Zero) (Token u Zero v)) refl
   where
-    go : (n : ℕ) → hit (AtPort t Zero) (Token u Zero v) ≡ n → hit (AtPort t Zero) (Token u Zero v) ≤ hit (ByFetch t) (Read c u)
+    go : (n : ℕ) → hit (AtPort t Zero) (Token u Zero v) ≡ n
+        → hit (AtPort t Zero) (Token u Zero v) ≤ hit (ByFetch t) (Read c u)
     go zero e = omega (arith, e)
     go (suc n) e =
         let is = (key_parts (hit_is (AtPort t Zero) (Token u Zero v) (omega (arith, e)))).0 in
         omega (arith, hit_small (AtPort t Zero) (Token u Zero v), hit_itself (ByFetch t) (Read c u) (ap ByFetch is))
 
-held_hits : (t : Tag) (v : Value) (c : Cell) (e : Event) → count_for (AtPort t Zero) (answers v (held c e)) ≤ hit (ByFetch t) (payload_of e)
+held_hits : (t : Tag) (v : Value) (c : Cell) (e : Event)
+    → count_for (AtPort t Zero) (answers v (held c e)) ≤ hit (ByFetch t) (payload_of e)
 held_hits t v c (Took n u p w a) = omega (arith, count_none (AtPort t Zero))
 held_hits t v c (Wrote n d w x a) = omega (arith, count_none (AtPort t Zero))
 held_hits t v c (Looked n d u (Now w)) = omega (arith, count_none (AtPort t Zero))
 held_hits t v c (Looked n d u Deferred) = by (same_cell d c)
   where
     by : (b : Bool) → count_for (AtPort t Zero) (answers v (cond b (u ∷ []) [])) ≤ hit (ByFetch t) (Read d u)
-    by true = omega (arith, count_cons (AtPort t Zero) (Token u Zero v) [], count_none (AtPort t Zero), hit_answer t u v d)
+    by true =
+        omega (arith, count_cons (AtPort t Zero) (Token u Zero v) [], count_none (AtPort t Zero), hit_answer t u v d)
     by false = omega (arith, count_none (AtPort t Zero))
 
-off_hits : (t : Tag) (v : Value) (c : Cell) (run : List Event) → count_for (AtPort t Zero) (answers v (put_off run c)) ≤ count_for (ByFetch t) (handled run)
+off_hits : (t : Tag) (v : Value) (c : Cell) (run : List Event)
+    → count_for (AtPort t Zero) (answers v (put_off run c)) ≤ count_for (ByFetch t) (handled run)
 off_hits t v c [] = omega (arith, count_none (AtPort t Zero))
 off_hits t v c (e ∷ run) =
     let parts : count_for (AtPort t Zero) (answers v (put_off run c ++ held c e)) ≡
@@ -189,16 +200,19 @@ no_answer k v ts other = go (count_for k (answers v ts)) refl
         let u = Among-from_map (λ t. Token t Zero v) b.0 ts b.1 in
         absurd (other u.0 (sym (ap key_of u.2) ∙ b.2))
 
-pub off_once : (k : Key) (v : Value) (c : Cell) (run : List Event) → Few run → count_for k (answers v (put_off run c)) ≤ 1
+pub off_once : (k : Key) (v : Value) (c : Cell) (run : List Event) → Few run
+    → count_for k (answers v (put_off run c)) ≤ 1
 off_once (AtPort t Zero) v c run few = omega (arith, off_hits t v c run, few (ByFetch t))
-off_once (AtPort t One) v c run few = no_answer (AtPort t One) v (put_off run c) (λ u e. let bad : Zero ≡ One = (key_parts e).1 in cc)
+off_once (AtPort t One) v c run few =
+    no_answer (AtPort t One) v (put_off run c) (λ u e. let bad : Zero ≡ One = (key_parts e).1 in cc)
 off_once (ByFetch t) v c run few = no_answer (ByFetch t) v (put_off run c) (λ u e. cc)
 off_once (ByStore t) v c run few = no_answer (ByStore t) v (put_off run c) (λ u e. cc)
 
 module _ (g : Parts) (vs : List Constant) (count : ℕ) (differ : (n : ℕ) (b : Bool) → AllDiffer (dests_at g n b)) where
   -- so an event that enters a block does so in another context than its own
-  pub sent_once : (s : World) (run : List Event) → Reach g vs count s run → Few run → (e : Event) → Among e run → (k : Key)
-      → ((c : Context) → Enters e c → c ≡ (tag_of (payload_of e)).context → ⊥) → count_for k (sends_of g e) ≤ 1
+  pub sent_once : (s : World) (run : List Event) → Reach g vs count s run → Few run → (e : Event) → Among e run
+      → (k : Key) → ((c : Context) → Enters e c → c ≡ (tag_of (payload_of e)).context → ⊥)
+      → count_for k (sends_of g e) ≤ 1
   sent_once s run r few (Took n t p v Waits) among k elsewhere = omega (arith, count_none k)
   sent_once s run r few (Took n t p v Blocked) among k elsewhere = omega (arith, count_none k)
   sent_once s run r few (Took n t p v (Fires ops f)) among k elsewhere =
@@ -207,6 +221,7 @@ module _ (g : Parts) (vs : List Constant) (count : ℕ) (differ : (n : ℕ) (b :
   sent_once s run r few (Looked n c t Deferred) among k elsewhere = omega (arith, count_none k)
   sent_once s run r few (Wrote n c v w (Readers ts)) among k elsewhere =
       subst (λ us. count_for k (answers v us) ≤ 1)
-      (sym (whole_list run (cell_at count s) (cells_exact g vs count s run r) c v w ts (record { element = n; among = among })))
+      (sym (whole_list run (cell_at count s) (cells_exact g vs count s run r) c v w ts
+      (record { element = n; among = among })))
       (off_once k v c run few)
   sent_once s run r few (Wrote n c v w (Second x)) among k elsewhere = omega (arith, count_none k)

@@ -1,5 +1,6 @@
 -- Each message of a run of a valid graph fits it, so what fires does so on operands that suit its operator.
-use Rattle.std.proofs.Common.{◌≡◌, inr, ℕ, ◌+◌, ◌<◌, false, max, Option, Some, None, List, ◌∷◌, [], slice_get, refl, sym, ◌∙◌, ap, subst, arith}
+use Rattle.std.proofs.Common.{◌≡◌, inr, ℕ, ◌+◌, ◌<◌, false, max, Option, Some, None, List, ◌∷◌, [], slice_get, refl}
+use Rattle.std.proofs.Common.{sym, ◌∙◌, ap, subst, arith}
 use Rattle.std.specs.Prelude.{All, is_some, option_map}
 use Rattle.std.specs.Option.{option_map_or}
 use Rattle.id_instr.specs.declared.instr.Instr.{Instr}
@@ -62,8 +63,9 @@ no_port None e = refl
 no_port (Some k) e = cc
 
 -- what was handled fits, so operands that were do
-suitable : (g : Parts) (t : Tag) (i : Instr) (ops : Operands) (events : List Event) → slice_get g.instrs t.instr ≡ Some i
-    → ((x : Payload) → Among x (handled events) → FitsOnce g x) → OperandsHandled events t (two_ports i.op) ops → Suitable g t i ops
+suitable : (g : Parts) (t : Tag) (i : Instr) (ops : Operands) (events : List Event)
+    → slice_get g.instrs t.instr ≡ Some i → ((x : Payload) → Among x (handled events) → FitsOnce g x)
+    → OperandsHandled events t (two_ports i.op) ops → Suitable g t i ops
 suitable g t i ops events at fit have = by_ports have
   where
     kind : (stamp : ℕ) (p : Port) (v : Value) → TokenFits g stamp t p v → port_kind i.op p ≡ Some (kind_of v)
@@ -105,11 +107,13 @@ module _ (g : Parts) (vs : List Constant) (count : ℕ) (valid : IsValid g) (tak
       record { stamp = (m.0).stamp; fits = subst (PayloadFits g (m.0).stamp) (sym m.2) fits }
 
   -- an answer fits where its read and the write of its value do
-  answer_fits : (c : Cell) (t w : Tag) (v : Value) → FitsOnce g (Read c t) → FitsOnce g (Write c v w) → FitsOnce g (Token t Zero v)
+  answer_fits : (c : Cell) (t w : Tag) (v : Value) → FitsOnce g (Read c t) → FitsOnce g (Write c v w)
+      → FitsOnce g (Token t Zero v)
   answer_fits c t w v x y = record { stamp = x.stamp; fits = reply_fits g x.stamp c v t (y.fits).kind (x.fits).reply }
 
   -- and so does one that an event of a run sends, where what was handled does
-  answers_fit : (s : World) (events : List Event) → Reach g vs count s events → ((x : Payload) → Among x (handled events) → FitsOnce g x)
+  answers_fit : (s : World) (events : List Event) → Reach g vs count s events
+      → ((x : Payload) → Among x (handled events) → FitsOnce g x)
       → (t : Tag) (v : Value) (e : Event) → Replies events t v e → FitsOnce g (Token t Zero v)
   answers_fit s events r fit t v e x =
       let z = reply_sound events (cell_at count s) (cells_exact g vs count s events r) t v e x in
@@ -117,11 +121,13 @@ module _ (g : Parts) (vs : List Constant) (count : ℕ) (valid : IsValid g) (tak
       let puts = (z.2).2 in
       answer_fits z.0 t (z.2).0 v
       (fit (Read z.0 t) (Among-map payload_of (Looked asks.element z.0 t (z.1).0) events asks.among))
-      (fit (Write z.0 v (z.2).0) (Among-map payload_of (Wrote puts.element z.0 v (z.2).0 (Readers (z.2).1)) events puts.among))
+      (fit (Write z.0 v (z.2).0)
+      (Among-map payload_of (Wrote puts.element z.0 v (z.2).0 (Readers (z.2).1)) events puts.among))
 
   -- what an event sends fits, where what was handled does
-  passes : (s : World) (events : List Event) → Reach g vs count s events → (e : Event) → Among e events → ((h : Event) → Among h events → Unit {0})
-      → ((x : Payload) → Among x (handled events) → FitsOnce g x) → (x : Payload) → Among x (sends_of g e) → FitsOnce g x
+  passes : (s : World) (events : List Event) → Reach g vs count s events → (e : Event) → Among e events
+      → ((h : Event) → Among h events → Unit {0}) → ((x : Payload) → Among x (handled events) → FitsOnce g x)
+      → (x : Payload) → Among x (sends_of g e) → FitsOnce g x
   passes s events r e among known fit x h = by (sent_from g events e among x h)
     where
       of_firing : (t : Tag) (f : Fired) (y : FiresAs events t f) → Among x (sent_by g t f) → FitsOnce g x
@@ -141,14 +147,20 @@ module _ (g : Parts) (vs : List Constant) (count : ℕ) (valid : IsValid g) (tak
       by (by_answer t v is y) = subst (FitsOnce g) (sym is) (answers_fit s events r fit t v e y)
 
   -- so each firing is suited
-  firing_suited : (s : World) (events : List Event) → Reach g vs count s events → (t : Tag) (f : Fired) (x : FiresAs events t f)
-      → IsSuited g t x.operands f
+  firing_suited : (s : World) (events : List Event) → Reach g vs count s events
+      → (t : Tag) (f : Fired) (x : FiresAs events t f) → IsSuited g t x.operands f
   firing_suited s events r t f x =
       let y = has_fired g vs count s events r x in
       let fit = λ (m : Payload) (h : Among m (handled events)).
       every_message g vs count (λ e. Unit {0}) (FitsOnce g) starts passes s events r (λ e a. tt) m (inr h) in
       let z = suitable g t y.instr x.operands events y.at fit y.handled_are in
-      record { instr = y.instr; at = y.at; suits = z.suits; fires = λ e. fires-from_Suits (y.instr).op t x.operands y.fresh z.suits (sym y.is ∙ e) }
+      record {
+        instr = y.instr;
+        at = y.at;
+        suits = z.suits;
+        fires =
+            λ e. fires-from_Suits (y.instr).op t x.operands y.fresh z.suits (sym y.is ∙ e);
+      }
 
   -- *Suited* of one list of deliveries
   pub suited_at : (ks : List ℕ) → AreSuited g vs count (run g count ks (start g vs count))

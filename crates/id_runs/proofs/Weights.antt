@@ -114,7 +114,8 @@ module _ {A : Type 0} (t : Tells A) where
   among_weight x (m ∷ ms) some =
       ⊎_elim (λ (yes : t.same x m ≡ true). inl (t.is_same x m yes))
       (λ (no : t.same x m ≡ false).
-      let z : is x m ≡ 0 = ap (λ b. cond b 1 0) no in inr (among_weight x ms (omega (arith, sum_by-cons (is x) m ms, z))))
+      let z : is x m ≡ 0 =
+      ap (λ b. cond b 1 0) no in inr (among_weight x ms (omega (arith, sum_by-cons (is x) m ms, z))))
       (cases_Bool (t.same x m))
 
   -- what is among the list weighs something

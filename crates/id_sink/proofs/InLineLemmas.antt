@@ -21,7 +21,9 @@ add : (xs ys : List ℕ) → IsWithin xs → IsWithin ys → IsWithin (xs ++ ys)
 add xs ys h k = all_pass-append is_within_line xs ys h k
 
 place_within : (text : List ℕ) (e : ℕ) → IsWithin (place_text text e)
-place_within text e = add (decimal (line_of text e)) (58 ∷ decimal (column_of text e)) (decimal_within (line_of text e)) (decimal_within (column_of text e))
+place_within text e =
+    add (decimal (line_of text e)) (58 ∷ decimal (column_of text e)) (decimal_within (line_of text e))
+    (decimal_within (column_of text e))
 
 iteration_within : (b : Bool) (k : ℕ) → IsWithin (iteration_text b k)
 iteration_within true k = decimal_within k
@@ -37,7 +39,8 @@ steps_within text [] = refl
 steps_within text (s ∷ ss) = add (step_text text s) (steps_text text ss) (step_within text s) (steps_within text ss)
 
 pub point_within : (text : List ℕ) (p : Path) (e : ℕ) → IsWithin (point_text text p e)
-point_within text p e = add (steps_text text p.steps) (64 ∷ place_text text e) (steps_within text p.steps) (place_within text e)
+point_within text p e =
+    add (steps_text text p.steps) (64 ∷ place_text text e) (steps_within text p.steps) (place_within text e)
 
 truth_within : (b : Bool) → IsWithin (truth_text b)
 truth_within true = refl
@@ -50,7 +53,8 @@ value_within text (Name s) = point_within text s.path s.place
 
 pub cell_within : (text : List ℕ) (s : Site) (i : ℤ) → IsWithin (cell_text text s i)
 cell_within text s i =
-    add (site_text text s) (91 ∷ (signed_decimal i ++ codes "]")) (point_within text s.path s.place) (add (signed_decimal i) (codes "]") (signed_within i) refl)
+    add (site_text text s) (91 ∷ (signed_decimal i ++ codes "]")) (point_within text s.path s.place)
+    (add (signed_decimal i) (codes "]") (signed_within i) refl)
 
 pub filled_within : (text : List ℕ) (s : Site) (i : ℤ) (v : SourceValue) → IsWithin (filled_text text s i v)
 filled_within text s i v = add (cell_text text s i) (equal_text text v) (cell_within text s i) (value_within text v)

@@ -37,13 +37,15 @@ pub both_of : (a b : Bool) → a ≡ true → b ≡ true → (a && b) ≡ true
 both_of true b e f = f
 both_of false b e f = absurd (false≢true e)
 
-pub all_pass-append : (t : ℕ → Bool) (xs ys : List ℕ) → all_pass t xs ≡ true → all_pass t ys ≡ true → all_pass t (xs ++ ys) ≡ true
+pub all_pass-append : (t : ℕ → Bool) (xs ys : List ℕ) → all_pass t xs ≡ true → all_pass t ys ≡ true
+    → all_pass t (xs ++ ys) ≡ true
 all_pass-append t [] ys h k = k
 all_pass-append t (x ∷ xs) ys h k =
     let p = both (t x) (all_pass t xs) h in both_of (t x) (all_pass t (xs ++ ys)) p.0 (all_pass-append t xs ys p.1 k)
 
 -- what passes one test passes the other
-pub all_pass-other : (t u : ℕ → Bool) → ((b : ℕ) → t b ≡ true → u b ≡ true) → (xs : List ℕ) → all_pass t xs ≡ true → all_pass u xs ≡ true
+pub all_pass-other : (t u : ℕ → Bool) → ((b : ℕ) → t b ≡ true → u b ≡ true) → (xs : List ℕ) → all_pass t xs ≡ true
+    → all_pass u xs ≡ true
 all_pass-other t u h [] k = refl
 all_pass-other t u h (x ∷ xs) k =
     let p = both (t x) (all_pass t xs) k in both_of (u x) (all_pass u xs) (h x p.0) (all_pass-other t u h xs p.1)
@@ -72,13 +74,15 @@ cut t (x ∷ xs) (y ∷ ys) r s h k p q e =
 -- ---- lines
 
 -- a line with bytes of it before
-pub is_line-behind : (xs ys : List ℕ) → all_pass is_within_line xs ≡ true → is_line ys ≡ true → is_line (xs ++ ys) ≡ true
+pub is_line-behind : (xs ys : List ℕ) → all_pass is_within_line xs ≡ true → is_line ys ≡ true
+    → is_line (xs ++ ys) ≡ true
 is_line-behind [] ys h k = k
 is_line-behind (x ∷ xs) ys h k =
     let p = both (is_within_line x) (all_pass is_within_line xs) h in
     by (is_line_end x) p.0 (is_line-behind xs ys p.1 k)
   where
-    by : (b : Bool) → not b ≡ true → is_line (xs ++ ys) ≡ true → (if b then is_nothing (xs ++ ys) else is_line (xs ++ ys)) ≡ true
+    by : (b : Bool) → not b ≡ true → is_line (xs ++ ys) ≡ true
+        → (if b then is_nothing (xs ++ ys) else is_line (xs ++ ys)) ≡ true
     by true e f = absurd (false≢true e)
     by false e f = f
 
@@ -94,13 +98,15 @@ line_cut (x ∷ xs) (y ∷ ys) r s h k e =
     let first : x ≡ y = cc in
     let more : xs ++ r ≡ ys ++ s = cc in
     let same : is_line_end y ≡ is_line_end x = sym (ap is_line_end first) in
-    let z = by (is_line_end x) refl h (subst (λ (b : Bool). (if b then is_nothing ys else is_line ys) ≡ true) same k) more
+    let z = by (is_line_end x) refl h (subst (λ (b : Bool). (if b then is_nothing ys else is_line ys) ≡ true) same k)
+    more
     (λ f g. line_cut xs ys r s f g more) in
     let rest : xs ≡ ys = z.0 in
     (λ i. first i ∷ rest i, z.1)
   where
-    by : (b : Bool) → b ≡ b → (if b then is_nothing xs else is_line xs) ≡ true → (if b then is_nothing ys else is_line ys) ≡ true
-        → xs ++ r ≡ ys ++ s → (is_line xs ≡ true → is_line ys ≡ true → (xs ≡ ys) × (r ≡ s)) → (xs ≡ ys) × (r ≡ s)
+    by : (b : Bool) → b ≡ b → (if b then is_nothing xs else is_line xs) ≡ true
+        → (if b then is_nothing ys else is_line ys) ≡ true → xs ++ r ≡ ys ++ s
+        → (is_line xs ≡ true → is_line ys ≡ true → (xs ≡ ys) × (r ≡ s)) → (xs ≡ ys) × (r ≡ s)
     by true u f g e again =
         let a = no_bytes xs f in
         let b = no_bytes ys g in

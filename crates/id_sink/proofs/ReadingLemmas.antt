@@ -1,5 +1,6 @@
 -- Lemmas on specs/Reading.antt: what comes of bytes as a text.
-use Rattle.std.proofs.Common.{◌≡◌, ℕ, ◌<◌, ◌≤◌, List, take, length, true, false, Option, Some, None, IfSome, Result, Ok, Err, inl, refl, sym, subst, ◌∙◌, arith}
+use Rattle.std.proofs.Common.{◌≡◌, ℕ, ◌<◌, ◌≤◌, List, take, length, true, false, Option, Some, None, IfSome, Result, Ok}
+use Rattle.std.proofs.Common.{Err, inl, refl, sym, subst, ◌∙◌, arith}
 use Rattle.std.specs.Prelude.{String, Vec, nat_le}
 use Rattle.std.specs.Str.{IsUtf8}
 use Rattle.std.proofs.lemmas.Bool.{cond-true, cond-false, false_from_ne_true}
@@ -33,7 +34,8 @@ whole bytes le = take_all 1048577 bytes (omega (arith, length-take 1048577 bytes
 
 module _ {A : Type 0} where
   -- what comes of a front of one byte more than the limit comes of all
-  of_all : (bytes : List ℕ) (r : Result (String A) SourceFault) → IsTextOf (take 1048577 bytes) r → IsRead (Some (text_in bytes)) r
+  of_all : (bytes : List ℕ) (r : Result (String A) SourceFault) → IsTextOf (take 1048577 bytes) r
+      → IsRead (Some (text_in bytes)) r
   of_all bytes (Ok s) h =
       let all = whole bytes h.0 in
       let utf8 = subst IsUtf8 (h.1 ∙ all) (IsUtf8-string_bytes s) in
@@ -50,7 +52,8 @@ module _ {A : Type 0} where
   of_all bytes (Err Memory) h = absurd h
 
   -- what comes of the front that a folder gave is what the folder's bytes are as a text
-  pub of_front : {B : Type 0} (told : Option (Result (List ℕ) ReadFault)) (v : Vec ℕ B) (r : Result (String A) SourceFault) → IsFrontOf told 1048577 (Ok v) →
+  pub of_front : {B : Type 0} (told : Option (Result (List ℕ) ReadFault)) (v : Vec ℕ B)
+      (r : Result (String A) SourceFault) → IsFrontOf told 1048577 (Ok v) →
       IsTextOf v.items r → IsRead (told_text told) r
   of_front None v (Ok s) f h = tt
   of_front None v (Err e) f h = tt
@@ -58,7 +61,8 @@ module _ {A : Type 0} where
   of_front (Some (Err e)) v r f h = absurd f
 
   -- what comes of a front of one byte more than the limit comes of all that is known
-  known_of_all : (bytes : List ℕ) (r : Result (String A) SourceFault) → IsTextOf (take 1048577 bytes) r → IsReadOf bytes r
+  known_of_all : (bytes : List ℕ) (r : Result (String A) SourceFault) → IsTextOf (take 1048577 bytes) r
+      → IsReadOf bytes r
   known_of_all bytes (Ok s) h =
       let all = whole bytes h.0 in
       (subst (λ xs. length xs ≤ 1048576) all h.0, h.1 ∙ all)
@@ -66,7 +70,8 @@ module _ {A : Type 0} where
   known_of_all bytes (Err File) h = tt
   known_of_all bytes (Err Memory) h = tt
 
-  pub of_known : (known : Option (List ℕ)) (items : List ℕ) (r : Result (String A) SourceFault) → IfSome known (λ bytes. items ≡ take 1048577 bytes) →
+  pub of_known : (known : Option (List ℕ)) (items : List ℕ) (r : Result (String A) SourceFault)
+      → IfSome known (λ bytes. items ≡ take 1048577 bytes) →
       IsTextOf items r → IfSome known (λ bytes. IsReadOf bytes r)
   of_known None items r e h = tt
   of_known (Some bytes) items r e h = known_of_all bytes r (subst (λ xs. IsTextOf xs r) e h)

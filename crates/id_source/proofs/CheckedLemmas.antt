@@ -4,8 +4,10 @@ use Rattle.std.proofs.lemmas.Bool.{false≢true}
 use Rattle.id_table.specs.declared.row.Row.{Row}
 use Rattle.id_table.specs.declared.row.Node.{Node}
 use Rattle.id_table.specs.declared.row.Node.TheVariants.{Param, Literal, Name, Unary, Binary, If, Call, Next, NextUse}
-use Rattle.id_table.specs.declared.row.Node.TheVariants.{Loop, Block, Binding, Array, Fetch, Store, Switches, Within, Index}
-use Rattle.id_table.specs.Loops.{IsLoop, IsLoopOf, IsNextOf, IsTest, predicate, flag, AreBounds, Begins, plainly, with_bounds, bounds_row, index_row}
+use Rattle.id_table.specs.declared.row.Node.TheVariants.{Loop, Block, Binding, Array, Fetch, Store, Switches, Within}
+use Rattle.id_table.specs.declared.row.Node.TheVariants.{Index}
+use Rattle.id_table.specs.Loops.{IsLoop, IsLoopOf, IsNextOf, IsTest, predicate, flag, AreBounds, Begins, plainly}
+use Rattle.id_table.specs.Loops.{with_bounds, bounds_row, index_row}
 use Rattle.id_table.specs.Rows.{arm_at, at}
 use Rattle.id_table.specs.Tables.{AreApart, HasPart, is_binder, is_expression, is_param, is_store, is_thing, is_within}
 use Rattle.id_table.proofs.PlacesLemmas.{AreApart-rows_of, HasPlace-rows_of}
@@ -49,16 +51,20 @@ thing-param _ h = absurd (false≢true h)
 
 -- no two things of it have one place
 pub apart_of : (P : Checked) → AreApart (rows P)
-apart_of P = let F : List Row → Type 0 = λ R. AreApart R in subst F (sym P.tabled) (AreApart-rows_of (tree P) P.distinct)
+apart_of P =
+    let F : List Row → Type 0 = λ R. AreApart R in subst F (sym P.tabled) (AreApart-rows_of (tree P) P.distinct)
 
 -- things stand at places of its tree
-pub placed_of : (P : Checked) (n : ℕ) → n < length (rows P) → is_thing (at (rows P) n).node ≡ true → HasPlace (tree P) (place P n)
+pub placed_of : (P : Checked) (n : ℕ) → n < length (rows P) → is_thing (at (rows P) n).node ≡ true
+    → HasPlace (tree P) (place P n)
 placed_of P =
-    let F : List Row → Type 0 = λ R. (n : ℕ) → n < length R → is_thing (at R n).node ≡ true → HasPlace (tree P) (at R n).place in
+    let F : List Row → Type 0 =
+    λ R. (n : ℕ) → n < length R → is_thing (at R n).node ≡ true → HasPlace (tree P) (at R n).place in
     subst F (sym P.tabled) (HasPlace-rows_of (tree P))
 
 -- a name's binder is a binder
-pub binder_of : (P : Checked) (n x b : ℕ) → Stands P n (Name x) → binder P n ≡ Some b → (b < length (rows P)) × (is_binder (at (rows P) b).node ≡ true)
+pub binder_of : (P : Checked) (n x b : ℕ) → Stands P n (Name x) → binder P n ≡ Some b
+    → (b < length (rows P)) × (is_binder (at (rows P) b).node ≡ true)
 binder_of P n x b h k =
     let r = bound_name_row P n x h in
     let e : Some r.0 ≡ Some b = sym r.1.binder ∙ k in
@@ -67,7 +73,8 @@ binder_of P n x b h k =
     (binder_below P n b h.within k, subst F q r.1.is_binder)
 
 -- how many loops stand between a row and its binder
-pub far-between : (S : Source) (n c : ℕ) → n < length (rows S.checked) → c < length (rows S.checked) → far_from S.checked n (Some c) ≡ between S n c
+pub far-between : (S : Source) (n c : ℕ) → n < length (rows S.checked) → c < length (rows S.checked)
+    → far_from S.checked n (Some c) ≡ between S n c
 far-between S n c l m =
     let R = rows S.checked in
     ap (λ i. i - depth S.checked c) (S.checked.deep n l) ∙ ap (λ i. depth_at R n - i) (S.checked.deep c m)
@@ -90,7 +97,8 @@ same-switches R n m h c d e =
     cc
 
 -- it stands right in the body
-pub next-region : (P : Checked) (n h w l m o v : ℕ) → Stands P n (Loop h w l) → NextStands P m h o v → (at (rows P) m).region ≡ arm_at w true
+pub next-region : (P : Checked) (n h w l m o v : ℕ) → Stands P n (Loop h w l) → NextStands P m h o v
+    → (at (rows P) m).region ≡ arm_at w true
 next-region P n h w l m o v s x =
     let R = rows P in
     let y = (table_of P).next_in m h x.index x.name (next-of P m h o v x) in
@@ -102,8 +110,8 @@ region-head : (i j : ℕ) → arm_at i true ≡ arm_at j true → i ≡ j
 region-head i j e = ap (λ r. r.head) e
 
 -- and what stands right in the body as a `next` is one of the loop
-pub next-loop : (P : Checked) (n h w l m x k o v : ℕ) → Stands P n (Loop h w l) → m < length (rows P) → (at (rows P) m).node ≡ Next x k o v
-    → (at (rows P) m).region ≡ arm_at w true
+pub next-loop : (P : Checked) (n h w l m x k o v : ℕ) → Stands P n (Loop h w l) → m < length (rows P)
+    → (at (rows P) m).node ≡ Next x k o v → (at (rows P) m).region ≡ arm_at w true
     → NextStands P m h o v
 next-loop P n h w l m x k o v s b e r =
     let R = rows P in
@@ -116,7 +124,8 @@ next-loop P n h w l m x k o v s b e r =
     record { name = x; index = k; next = record { within = b; node = e }; block = same }
 
 -- the predicate of a loop is an expression
-pub test-row : (P : Checked) (n h w t l : ℕ) → LoopStands P n h w t l → (t < length (rows P)) × (is_expression (at (rows P) t).node ≡ true)
+pub test-row : (P : Checked) (n h w t l : ℕ) → LoopStands P n h w t l
+    → (t < length (rows P)) × (is_expression (at (rows P) t).node ≡ true)
 test-row P n h w t l s =
     let T = table_of P in
     let H : Node → Type 0 = λ z. HasPart z t in
@@ -137,8 +146,8 @@ carried-three : (R : List Row) (h t c : ℕ) → IsTest R h t c → is_within (a
 carried-three R h t c (predicate e) q = absurd (no-expression (at R t).node e q)
 carried-three R h t c (flag e) q = refl
 
-pub within-there : (P : Checked) (w t x y : ℕ) → (at (rows P) w).node ≡ Switches t → Stands P x (Index y) → x ≡ index_row w
-    → is_within (at (rows P) t).node ≡ true
+pub within-there : (P : Checked) (w t x y : ℕ) → (at (rows P) w).node ≡ Switches t → Stands P x (Index y)
+    → x ≡ index_row w → is_within (at (rows P) t).node ≡ true
 within-there P w t x y s i e =
     let R = rows P in
     let z = (table_of P).index_of x y i.within i.node in
@@ -154,17 +163,20 @@ bounds-by : (R : List Row) (s n c : ℕ) → Begins R s n c → c ≡ 3 → (i :
 bounds-by R s n c (plainly e) q = absurd (omega (arith, q))
 bounds-by R s n c (with_bounds {c = i} e a) q = (i, e, a)
 
-pub bounds-region : (P : Checked) (n w x a b l : ℕ) (s : ForStands P n w x a b l) → (at (rows P) (bounds_row s.head)).region ≡ (at (rows P) n).region
+pub bounds-region : (P : Checked) (n w x a b l : ℕ) (s : ForStands P n w x a b l)
+    → (at (rows P) (bounds_row s.head)).region ≡ (at (rows P) n).region
 bounds-region P n w x a b l s =
     let R = rows P in
     let c = loop-rows P n s.head w l s.loop in
-    let k = carried-three R s.head c.test.test c.carried c.test.test_is (within-there P w c.test.test x s.name c.test.node s.index s.behind) in
+    let k = carried-three R s.head c.test.test c.carried c.test.test_is
+    (within-there P w c.test.test x s.name c.test.node s.index s.behind) in
     let d = bounds-by R c.start n c.carried c.from k in
     let q : bounds_row s.head ≡ d.0 = (let e = c.begins in let f = d.1 in omega arith) in
     ap (λ j. (at R j).region) q ∙ d.2.beside.region
 
 -- the binder of the use that it makes of its name outside is a binder
-pub use_binder : (P : Checked) (m h o v c : ℕ) → NextStands P m h o v → binder P o ≡ Some c → (c < length (rows P)) × (is_binder (at (rows P) c).node ≡ true)
+pub use_binder : (P : Checked) (m h o v c : ℕ) → NextStands P m h o v → binder P o ≡ Some c
+    → (c < length (rows P)) × (is_binder (at (rows P) c).node ≡ true)
 use_binder P m h o v c x e =
     let y = (table_of P).next_in m h x.index x.name (next-of P m h o v x) in
     let H : Node → Type 0 = λ z. HasPart z o in

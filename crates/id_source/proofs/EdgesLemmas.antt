@@ -15,7 +15,8 @@ use Rattle.id_source.specs.Links.{targets, width}
 
 -- ---- edges
 
-pub targets-at : (vs : List (Vec ℕ Global)) (n : ℕ) (d : Vec ℕ Global) → n < length vs → targets vs n ≡ (get_or vs n d).items
+pub targets-at : (vs : List (Vec ℕ Global)) (n : ℕ) (d : Vec ℕ Global) → n < length vs
+    → targets vs n ≡ (get_or vs n d).items
 targets-at [] n d h = absurd (omega arith)
 targets-at (v ∷ vs) zero d h = refl
 targets-at (v ∷ vs) (suc n) d h = targets-at vs n d (omega arith)
@@ -30,7 +31,8 @@ targets-same vs n w h =
     let l = length-set vs n w in
     targets-at (set vs n w) n w (omega arith) ∙ ap (λ v. v.items) (get_or-set_same vs n w w h)
 
-targets-other : (vs : List (Vec ℕ Global)) (n m : ℕ) (w : Vec ℕ Global) → (m ≡ n → ⊥) → targets (set vs n w) m ≡ targets vs m
+targets-other : (vs : List (Vec ℕ Global)) (n m : ℕ) (w : Vec ℕ Global) → (m ≡ n → ⊥)
+    → targets (set vs n w) m ≡ targets vs m
 targets-other [] n m w h = refl
 targets-other (v ∷ vs) zero zero w h = absurd (h refl)
 targets-other (v ∷ vs) zero (suc m) w h = refl
@@ -38,8 +40,8 @@ targets-other (v ∷ vs) (suc n) zero w h = refl
 targets-other (v ∷ vs) (suc n) (suc m) w h = targets-other vs n m w (λ e. h (ap (λ k. suc k) e))
 
 -- one row more without edges
-pub none-push : (vs : List (Vec ℕ Global)) (v : Vec ℕ Global) → v.items ≡ [] → ((a b : ℕ) → Among b (targets vs a) → ⊥) → (a b : ℕ)
-    → Among b (targets (vs ++ v ∷ []) a) → ⊥
+pub none-push : (vs : List (Vec ℕ Global)) (v : Vec ℕ Global) → v.items ≡ [] → ((a b : ℕ) → Among b (targets vs a) → ⊥)
+    → (a b : ℕ) → Among b (targets (vs ++ v ∷ []) a) → ⊥
 none-push [] v e h zero b k = let A : List ℕ → Type 0 = λ xs. Among b xs in subst A e k
 none-push [] v e h (suc a) b k = k
 none-push (w ∷ vs) v e h zero b k = h 0 b k
@@ -50,12 +52,14 @@ some-among None a h = cc
 some-among (Some b) a h = let e : a ≡ b = cc in inl e
 
 -- one edge more
-pub gains-one : (E F : Edges) (a b : ℕ) (w : Vec ℕ Global) → F.rows.items ≡ set E.rows.items a w → a < length E.rows.items
-    → w.items ≡ targets E.rows.items a ++ b ∷ [] → Gains E F a (b ∷ [])
+pub gains-one : (E F : Edges) (a b : ℕ) (w : Vec ℕ Global) → F.rows.items ≡ set E.rows.items a w
+    → a < length E.rows.items → w.items ≡ targets E.rows.items a ++ b ∷ [] → Gains E F a (b ∷ [])
 gains-one E F a b w e inside added =
     let vs = E.rows.items in
-    let here : targets F.rows.items a ≡ targets vs a ++ b ∷ [] = ap (λ xs. targets xs a) e ∙ targets-same vs a w inside ∙ added in
-    let other : (n : ℕ) → (n ≡ a → ⊥) → targets F.rows.items n ≡ targets vs n = λ n k. ap (λ xs. targets xs n) e ∙ targets-other vs a n w k in
+    let here : targets F.rows.items a ≡ targets vs a ++ b ∷ [] =
+    ap (λ xs. targets xs a) e ∙ targets-same vs a w inside ∙ added in
+    let other : (n : ℕ) → (n ≡ a → ⊥) → targets F.rows.items n ≡ targets vs n =
+    λ n k. ap (λ xs. targets xs n) e ∙ targets-other vs a n w k in
     let A : ℕ → List ℕ → Type 0 = λ c xs. Among c xs in
     record {
       wide = ap length e ∙ length-set vs a w;
@@ -89,7 +93,8 @@ kept-one E F a w e inside same n b h =
       | inl q ↦
           let P : ℕ → Type 0 = λ m. Among b (targets F.rows.items m) in
           let Q : ℕ → Type 0 = λ m. Among b (targets vs m) in
-          subst P (sym q.1) (subst A (sym (ap (λ xs. targets xs a) e ∙ targets-same vs a w inside ∙ same)) (subst Q q.1 h))
+          subst P (sym q.1)
+          (subst A (sym (ap (λ xs. targets xs a) e ∙ targets-same vs a w inside ∙ same)) (subst Q q.1 h))
       | inr q ↦ subst A (sym (ap (λ xs. targets xs n) e ∙ targets-other vs a n w q.1)) h
     ]
 
@@ -98,7 +103,8 @@ pub gains-both : (E F G : Edges) (a : ℕ) (bs cs : List ℕ) → Gains E F a bs
 gains-both E F G a bs cs g h = record {
   wide = h.wide ∙ g.wide;
   kept = λ n b k. h.kept n b (g.kept n b k);
-  added = λ b l k. (let w = g.wide in elim (Among-either b bs cs k) [ inl i ↦ h.kept a b (g.added b l i) | inr i ↦ h.added b (omega arith) i ]);
+  added = λ b l k. (let w = g.wide in
+      elim (Among-either b bs cs k) [ inl i ↦ h.kept a b (g.added b l i) | inr i ↦ h.added b (omega arith) i ]);
   only = λ n b k. elim (h.only n b k) [
     | inl i ↦ elim (g.only n b i) [ inl j ↦ inl j | inr j ↦ inr (j.0, Among-left b bs cs j.1) ]
     | inr i ↦ inr (i.0, Among-right b bs cs i.1)
@@ -111,44 +117,52 @@ gains-to E F a b g = record {
   wide = g.wide;
   kept = g.kept;
   added = λ n l h. elim h [
-    | inl q ↦ (let P : ℕ → Type 0 = λ m. Leads F m b in let k : a < width E = omega arith in subst P (sym q) (g.added b k (inl refl)))
+    | inl q ↦ (let P : ℕ → Type 0 = λ m. Leads F m b in let k : a < width E = omega arith in
+        subst P (sym q) (g.added b k (inl refl)))
     | inr f ↦ absurd f
   ];
 }
 
-pub gains_to-both : (E F G : Edges) (ds bs : List ℕ) (c : ℕ) → GainsTo E F ds c → GainsTo F G bs c → GainsTo E G (ds ++ bs) c
+pub gains_to-both : (E F G : Edges) (ds bs : List ℕ) (c : ℕ) → GainsTo E F ds c → GainsTo F G bs c
+    → GainsTo E G (ds ++ bs) c
 gains_to-both E F G ds bs c g h = record {
   wide = h.wide ∙ g.wide;
   kept = λ n b k. h.kept n b (g.kept n b k);
-  added = λ b l k. (let w = g.wide in elim (Among-either b ds bs k) [ inl i ↦ h.kept b c (g.added b l i) | inr i ↦ h.added b (omega arith) i ]);
+  added = λ b l k. (let w = g.wide in
+      elim (Among-either b ds bs k) [ inl i ↦ h.kept b c (g.added b l i) | inr i ↦ h.added b (omega arith) i ]);
 }
 
 -- the edges of a store's parts
-pub gains-store : (E F G H : Edges) (n x : ℕ) (t i u j : Option ℕ) → t ≡ u → i ≡ j → Gains E F n (some_row t) → Gains F G n (some_row i) → Gains G H n (x ∷ [])
-    → Gains E H n (some_row u ++ (some_row j ++ x ∷ []))
+pub gains-store : (E F G H : Edges) (n x : ℕ) (t i u j : Option ℕ) → t ≡ u → i ≡ j → Gains E F n (some_row t)
+    → Gains F G n (some_row i) → Gains G H n (x ∷ []) → Gains E H n (some_row u ++ (some_row j ++ x ∷ []))
 gains-store E F G H n x t i u j p q f g h =
     let A : Option ℕ → Type 0 = λ o. Gains E H n (some_row o ++ (some_row j ++ x ∷ [])) in
     let B : Option ℕ → Type 0 = λ o. Gains F H n (some_row o ++ x ∷ []) in
-    subst A p (gains-both E F H n (some_row t) (some_row j ++ x ∷ []) f (subst B q (gains-both F G H n (some_row i) (x ∷ []) g h)))
+    subst A p
+    (gains-both E F H n (some_row t) (some_row j ++ x ∷ []) f
+    (subst B q (gains-both F G H n (some_row i) (x ∷ []) g h)))
 
-pub gains_to-store : (E F G H : Edges) (n x : ℕ) (t i u j : Option ℕ) → t ≡ u → i ≡ j → GainsTo E F (some_row t) n → GainsTo F G (some_row i) n
-    → GainsTo G H (some_row (Some x)) n → GainsTo E H (some_row u ++ (some_row j ++ x ∷ [])) n
+pub gains_to-store : (E F G H : Edges) (n x : ℕ) (t i u j : Option ℕ) → t ≡ u → i ≡ j → GainsTo E F (some_row t) n
+    → GainsTo F G (some_row i) n → GainsTo G H (some_row (Some x)) n
+    → GainsTo E H (some_row u ++ (some_row j ++ x ∷ [])) n
 gains_to-store E F G H n x t i u j p q f g h =
     let A : Option ℕ → Type 0 = λ o. GainsTo E H (some_row o ++ (some_row j ++ x ∷ [])) n in
     let B : Option ℕ → Type 0 = λ o. GainsTo F H (some_row o ++ x ∷ []) n in
-    subst A p (gains_to-both E F H (some_row t) (some_row j ++ x ∷ []) n f (subst B q (gains_to-both F G H (some_row i) (x ∷ []) n g h)))
+    subst A p
+    (gains_to-both E F H (some_row t) (some_row j ++ x ∷ []) n f
+    (subst B q (gains_to-both F G H (some_row i) (x ∷ []) n g h)))
 
 -- those to the bounds of an index
-pub gains-bounds : (E F G : Edges) (n : ℕ) (a b u v : Option ℕ) → a ≡ u → b ≡ v → Gains E F n (some_row a) → Gains F G n (some_row b)
-    → Gains E G n (some_row u ++ some_row v)
+pub gains-bounds : (E F G : Edges) (n : ℕ) (a b u v : Option ℕ) → a ≡ u → b ≡ v → Gains E F n (some_row a)
+    → Gains F G n (some_row b) → Gains E G n (some_row u ++ some_row v)
 gains-bounds E F G n a b u v p q f g =
     let A : Option ℕ → Type 0 = λ o. Gains E F n (some_row o) in
     let B : Option ℕ → Type 0 = λ o. Gains F G n (some_row o) in
     gains-both E F G n (some_row u) (some_row v) (subst A p f) (subst B q g)
 
 -- and from them
-pub gains_to-bounds : (E F G : Edges) (n : ℕ) (a b u v : Option ℕ) → a ≡ u → b ≡ v → GainsTo E F (some_row a) n → GainsTo F G (some_row b) n
-    → GainsTo E G (some_row u ++ some_row v) n
+pub gains_to-bounds : (E F G : Edges) (n : ℕ) (a b u v : Option ℕ) → a ≡ u → b ≡ v → GainsTo E F (some_row a) n
+    → GainsTo F G (some_row b) n → GainsTo E G (some_row u ++ some_row v) n
 gains_to-bounds E F G n a b u v p q f g =
     let A : Option ℕ → Type 0 = λ o. GainsTo E F (some_row o) n in
     let B : Option ℕ → Type 0 = λ o. GainsTo F G (some_row o) n in
@@ -178,15 +192,18 @@ gains-by E F None bs e =
 gains-by E F (Some a) bs g = record {
   wide = g.wide;
   kept = g.kept;
-  added = λ c b k l h. (let q : a ≡ c = cc in let P : ℕ → Type 0 = λ d. d < width E → Leads F d b in subst P q (λ m. g.added b m h) l);
+  added = λ c b k l h. (let q : a ≡ c = cc in let P : ℕ → Type 0 = λ d. d < width E → Leads F d b in
+      subst P q (λ m. g.added b m h) l);
   only = g.only;
 }
 
-pub takes-init : (E : Edges) (ss : List Statement) (first : ℕ) (o : Option ℕ) → StatementsRise ss → Takes E E ss ss first o
-takes-init E ss first o r = record { wide = refl; kept = λ n b h. h; only = λ n b h. inl h; some = λ s h. h; gone = λ s h. inl h; rise = r }
+pub takes-init : (E : Edges) (ss : List Statement) (first : ℕ) (o : Option ℕ) → StatementsRise ss
+    → Takes E E ss ss first o
+takes-init E ss first o r =
+    record { wide = refl; kept = λ n b h. h; only = λ n b h. inl h; some = λ s h. h; gone = λ s h. inl h; rise = r }
 
-pub takes-step : (E F G : Edges) (ss ts us : List Statement) (s : Statement) (first : ℕ) (o : Option ℕ) → Takes E F ss ts first o → ts ≡ us ++ s ∷ []
-    → first ≤ s.row
+pub takes-step : (E F G : Edges) (ss ts us : List Statement) (s : Statement) (first : ℕ) (o : Option ℕ)
+    → Takes E F ss ts first o → ts ≡ us ++ s ∷ [] → first ≤ s.row
     → GainsFrom F G o (s.value ∷ []) → Takes E G ss us first o
 takes-step E F G ss ts us s first o t e l h =
     let g = gains-by F G o (s.value ∷ []) h in
@@ -206,7 +223,8 @@ takes-step E F G ss ts us s first o t e l h =
           | inl j ↦ inl j
           | inr j ↦ elim j [
             | inl q ↦
-                let P : Statement → Type 0 = λ y. (first ≤ y.row) × ((a : ℕ) → o ≡ Some a → a < width E → Leads G a y.value) in
+                let P : Statement → Type 0 =
+                λ y. (first ≤ y.row) × ((a : ℕ) → o ≡ Some a → a < width E → Leads G a y.value) in
                 inr (subst P (sym q) (l, λ a c k. let w = t.wide in g.added a s.value c (omega arith) (inl refl)))
             | inr f ↦ absurd f
           ]
@@ -216,8 +234,8 @@ takes-step E F G ss ts us s first o t e l h =
       rise = (let P : List Statement → Type 0 = λ xs. StatementsRise xs in rise-front us (s ∷ []) (subst P e t.rise));
     }
 
-pub takes-some : (E F : Edges) (ss ts us vs : List Statement) (s : Statement) (first : ℕ) (o : Option ℕ) → Takes E F ss ts first o → ts ≡ us ++ s ∷ []
-    → vs ≡ us ++ s ∷ []
+pub takes-some : (E F : Edges) (ss ts us vs : List Statement) (s : Statement) (first : ℕ) (o : Option ℕ)
+    → Takes E F ss ts first o → ts ≡ us ++ s ∷ [] → vs ≡ us ++ s ∷ []
     → s.row < first → TakesAll E F ss vs first o
 takes-some E F ss ts us vs s first o t e f l =
     let P : List Statement → Type 0 = λ xs. StatementsRise xs in
@@ -232,11 +250,16 @@ takes-some E F ss ts us vs s first o t e f l =
             let w = slice_get_within us k.0 x k.1 in
             let b = r k.0 (length us) x s (slice_get-left x us (s ∷ []) k.0 k.1) (slice_get-last s us) w in
             omega arith
-        | inr i ↦ elim i [ inl q ↦ (let Q : Statement → Type 0 = λ y. y.row < first in subst Q (sym q) l) | inr z ↦ absurd z ]
+        | inr i ↦ elim i [
+          | inl q ↦ (let Q : Statement → Type 0 = λ y. y.row < first in
+              subst Q (sym q) l)
+          | inr z ↦ absurd z
+        ]
       ];
     }
 
-pub takes-none : (E F : Edges) (ss ts us : List Statement) (first : ℕ) (o : Option ℕ) → Takes E F ss ts first o → ts ≡ [] → us ≡ [] → TakesAll E F ss us first o
+pub takes-none : (E F : Edges) (ss ts us : List Statement) (first : ℕ) (o : Option ℕ) → Takes E F ss ts first o
+    → ts ≡ [] → us ≡ [] → TakesAll E F ss us first o
 takes-none E F ss ts us first o t e f =
     let T : List Statement → Type 0 = λ xs. Takes E F ss xs first o in
     let A : Statement → List Statement → Type 0 = λ x xs. Among x xs in

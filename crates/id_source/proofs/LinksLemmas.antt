@@ -1,5 +1,6 @@
 -- What is true of the links of a program: what its rows turn On, what they read, and what asks for them.
-use Rattle.std.proofs.Common.{◌≡◌, ◌⊎◌, inl, inr, ℕ, zero, suc, ◌≤◌, ◌<◌, Bool, true, false, ◌||◌, ◌&&◌, nat_lt, nat_le, if◌then◌else◌, Some, None, Option}
+use Rattle.std.proofs.Common.{◌≡◌, ◌⊎◌, inl, inr, ℕ, zero, suc, ◌≤◌, ◌<◌, Bool, true, false, ◌||◌, ◌&&◌, nat_lt, nat_le}
+use Rattle.std.proofs.Common.{if◌then◌else◌, Some, None, Option}
 use Rattle.std.proofs.Common.{List, [], ◌∷◌, ◌++◌, length, refl, ap, sym, ◌∙◌, subst, arith}
 use Rattle.std.specs.Prelude.{slice_get}
 use Rattle.std.proofs.lemmas.Bool.{lt-leb, le-leb, le-ltb, lt-ltb}
@@ -12,17 +13,21 @@ use Rattle.id_check.specs.Programs.{rows}
 use Rattle.id_source.specs.declared.edges.Edges.{Edges}
 use Rattle.id_table.specs.declared.row.Row.{Row}
 use Rattle.id_table.specs.declared.row.Node.{Node}
-use Rattle.id_table.specs.declared.row.Node.TheVariants.{Unary, Binary, Split, If, Call, Next, Body, Loop, Block, Binding}
+use Rattle.id_table.specs.declared.row.Node.TheVariants.{Unary, Binary, Split, If, Call, Next, Body, Loop, Block}
+use Rattle.id_table.specs.declared.row.Node.TheVariants.{Binding}
 use Rattle.id_table.specs.declared.row.Node.TheVariants.{Array, Fetch, Address, Store, Bounds}
 use Rattle.id_table.specs.declared.row.Region.{Region}
 use Rattle.id_table.specs.Loops.{bounds_row, lower_at, lower_of, upper_at, upper_of}
 use Rattle.id_table.specs.Rows.{arm_at, at}
 use Rattle.id_table.specs.Tables.{around, has_statements, is_call, is_statement, is_switches}
 use Rattle.id_table.specs.Turns.{IsStatement, Turns, operand, left, right, test, argument, body, statement, in_block}
-use Rattle.id_table.specs.Turns.{index_low, index_high, low, high, fetched, fetch_index, address_target, address_index, stored, stored_value}
+use Rattle.id_table.specs.Turns.{index_low, index_high, low, high, fetched, fetch_index, address_target, address_index}
+use Rattle.id_table.specs.Turns.{stored, stored_value}
 use Rattle.id_source.specs.declared.links.Statement.{Statement}
-use Rattle.id_source.specs.Links.{AreArgsTo, AreNone, AreOpen, AreReadsTo, AreTurnsTo, From, Gains, GainsFrom, GainsTo, Leads, PartTurns, Statements}
-use Rattle.id_source.specs.Links.{Statements_at, TakesAll, TurnsOn, asker_at, beyond, linked_at, linked_of, nexts_turned, of_binding}
+use Rattle.id_source.specs.Links.{AreArgsTo, AreNone, AreOpen, AreReadsTo, AreTurnsTo, From, Gains, GainsFrom, GainsTo}
+use Rattle.id_source.specs.Links.{Leads, PartTurns, Statements}
+use Rattle.id_source.specs.Links.{Statements_at, TakesAll, TurnsOn, asker_at, beyond, linked_at, linked_of}
+use Rattle.id_source.specs.Links.{nexts_turned, of_binding}
 use Rattle.id_source.specs.Links.{index_of, of_next, of_store, parts_turned, some_row, switches_of, target_of, test_of}
 use Rattle.id_source.specs.Links.{BodyTurns, turned_by, width}
 use Rattle.id_source.proofs.AroundLemmas.{around-within}
@@ -36,7 +41,8 @@ slice_get-either : (ss : List Statement) (x : Statement) (i : ℕ) (s : Statemen
 slice_get-either [] x zero s h = inr (refl, let e : x ≡ s = cc in sym e)
 slice_get-either [] x (suc i) s h = cc
 slice_get-either (y ∷ ss) x zero s h = inl h
-slice_get-either (y ∷ ss) x (suc i) s h = elim (slice_get-either ss x i s h) [ inl k ↦ inl k | inr k ↦ inr (let e = k.0 in omega arith, k.1) ]
+slice_get-either (y ∷ ss) x (suc i) s h =
+    elim (slice_get-either ss x i s h) [ inl k ↦ inl k | inr k ↦ inr (let e = k.0 in omega arith, k.1) ]
 
 or-false : (b c : Bool) → b || c ≡ false → (b ≡ false) × (c ≡ false)
 or-false false c h = (refl, h)
@@ -98,10 +104,14 @@ plain-statement m a (Store b x) e = refl
 plain-statement m a _ e = cc
 
 -- what an expression or store turns On is a part, or what is turned on with a statement
-turned-part : (R : List Row) (n a : ℕ) → is_call (at R n).node ≡ false → Turns R n a → Among a (parts_turned R (at R n).node) ⊎ Stated R n a
-turned-part R n a k (operand {o = o} e) = let P : Node → Type 0 = λ z. Among a (parts_turned R z) in inl (subst P (sym e) (inl refl))
-turned-part R n a k (left {b = b} {o = o} e) = let P : Node → Type 0 = λ z. Among a (parts_turned R z) in inl (subst P (sym e) (inl refl))
-turned-part R n a k (right {b = b} {o = o} e) = let P : Node → Type 0 = λ z. Among a (parts_turned R z) in inl (subst P (sym e) (inr (inl refl)))
+turned-part : (R : List Row) (n a : ℕ) → is_call (at R n).node ≡ false → Turns R n a
+    → Among a (parts_turned R (at R n).node) ⊎ Stated R n a
+turned-part R n a k (operand {o = o} e) =
+    let P : Node → Type 0 = λ z. Among a (parts_turned R z) in inl (subst P (sym e) (inl refl))
+turned-part R n a k (left {b = b} {o = o} e) =
+    let P : Node → Type 0 = λ z. Among a (parts_turned R z) in inl (subst P (sym e) (inl refl))
+turned-part R n a k (right {b = b} {o = o} e) =
+    let P : Node → Type 0 = λ z. Among a (parts_turned R z) in inl (subst P (sym e) (inr (inl refl)))
 turned-part R n a k (test e f) =
     let P : Node → Type 0 = λ z. Among a (parts_turned R z) in
     let Q : Node → Type 0 = λ z. Among a (some_row (test_of z)) in
@@ -115,11 +125,16 @@ turned-part R n a k (index_high {h = h} e f) =
     let P : Node → Type 0 = λ z. Among a (parts_turned R z) in
     let u = upper_at R h in
     inl (subst P (sym e) (Among-right a (some_row (lower_at R h)) (some_row u) (some-among u a (ap upper_of f))))
-turned-part R n a k (body e) = let P : Node → Type 0 = λ z. Among a (parts_turned R z) in inl (subst P (sym e) (inl refl))
-turned-part R n a k (low {b = b} e) = let P : Node → Type 0 = λ z. Among a (parts_turned R z) in inl (subst P (sym e) (inl refl))
-turned-part R n a k (high {a = b} e) = let P : Node → Type 0 = λ z. Among a (parts_turned R z) in inl (subst P (sym e) (inr (inl refl)))
-turned-part R n a k (fetched {i = i} e) = let P : Node → Type 0 = λ z. Among a (parts_turned R z) in inl (subst P (sym e) (inl refl))
-turned-part R n a k (fetch_index {t = t} e) = let P : Node → Type 0 = λ z. Among a (parts_turned R z) in inl (subst P (sym e) (inr (inl refl)))
+turned-part R n a k (body e) =
+    let P : Node → Type 0 = λ z. Among a (parts_turned R z) in inl (subst P (sym e) (inl refl))
+turned-part R n a k (low {b = b} e) =
+    let P : Node → Type 0 = λ z. Among a (parts_turned R z) in inl (subst P (sym e) (inl refl))
+turned-part R n a k (high {a = b} e) =
+    let P : Node → Type 0 = λ z. Among a (parts_turned R z) in inl (subst P (sym e) (inr (inl refl)))
+turned-part R n a k (fetched {i = i} e) =
+    let P : Node → Type 0 = λ z. Among a (parts_turned R z) in inl (subst P (sym e) (inl refl))
+turned-part R n a k (fetch_index {t = t} e) =
+    let P : Node → Type 0 = λ z. Among a (parts_turned R z) in inl (subst P (sym e) (inr (inl refl)))
 turned-part R n a k (address_target {a = b} {v = x} e f) =
     let P : Node → Type 0 = λ z. Among a (parts_turned R z) in
     let t = target_of (at R b).node in
@@ -129,12 +144,15 @@ turned-part R n a k (address_index {a = b} {v = x} e f) =
     let P : Node → Type 0 = λ z. Among a (parts_turned R z) in
     let t = target_of (at R b).node in
     let i = index_of (at R b).node in
-    inl (subst P (sym e) (Among-right a (some_row t) (some_row i ++ x ∷ []) (Among-left a (some_row i) (x ∷ []) (some-among i a (ap index_of f)))))
+    inl (subst P (sym e)
+    (Among-right a (some_row t) (some_row i ++ x ∷ [])
+    (Among-left a (some_row i) (x ∷ []) (some-among i a (ap index_of f)))))
 turned-part R n a k (stored_value {a = b} e) =
     let P : Node → Type 0 = λ z. Among a (parts_turned R z) in
     let t = target_of (at R b).node in
     let i = index_of (at R b).node in
-    inl (subst P (sym e) (Among-right a (some_row t) (some_row i ++ a ∷ []) (Among-right a (some_row i) (a ∷ []) (inl refl))))
+    inl (subst P (sym e)
+    (Among-right a (some_row t) (some_row i ++ a ∷ []) (Among-right a (some_row i) (a ∷ []) (inl refl))))
 turned-part R n a k (statement {m = m} {x = x} b s e) = inr (m, s, ap (λ z. turned_by m z) e)
 turned-part R n a k (stored {m = m} b s e) = inr (m, s, ap (λ z. turned_by m z) e)
 
@@ -179,7 +197,11 @@ part-turned R n a (Store b x) e h =
       | inl k ↦ by_target (at R b).node refl k
       | inr k ↦ elim (Among-either a (some_row i) (x ∷ []) k) [
         | inl j ↦ by_index (at R b).node refl j
-        | inr j ↦ elim j [ inl q ↦ (let P : ℕ → Type 0 = λ d. Turns R n d in subst P (sym q) (stored_value e)) | inr f ↦ absurd f ]
+        | inr j ↦ elim j [
+          | inl q ↦ (let P : ℕ → Type 0 = λ d. Turns R n d in
+              subst P (sym q) (stored_value e))
+          | inr f ↦ absurd f
+        ]
       ]
     ]
   where
@@ -195,16 +217,21 @@ part-turned R n a (Store b x) e h =
 part-turned R n a _ e h = absurd h
 
 -- what is turned on with a statement of a block, that block turns On
-stated-turns : (R : List Row) (n b m a : ℕ) (z : Node) → (at R n).node ≡ Block b → IsStatement R n m → (at R m).node ≡ z → turned_by m z ≡ Some a → Turns R n a
-stated-turns R n b m a (Binding x c) e s f q = let k : c ≡ a = cc in let P : ℕ → Type 0 = λ d. Turns R n d in subst P k (statement e s f)
-stated-turns R n b m a (Store c x) e s f q = let k : m ≡ a = cc in let P : ℕ → Type 0 = λ d. Turns R n d in subst P k (stored e s f)
+stated-turns : (R : List Row) (n b m a : ℕ) (z : Node) → (at R n).node ≡ Block b → IsStatement R n m → (at R m).node ≡ z
+    → turned_by m z ≡ Some a → Turns R n a
+stated-turns R n b m a (Binding x c) e s f q =
+    let k : c ≡ a = cc in let P : ℕ → Type 0 = λ d. Turns R n d in subst P k (statement e s f)
+stated-turns R n b m a (Store c x) e s f q =
+    let k : m ≡ a = cc in let P : ℕ → Type 0 = λ d. Turns R n d in subst P k (stored e s f)
 stated-turns R n b m a _ e s f q = cc
 
 -- and with one of a loop's body, its switches do
-body-stated : (R : List Row) (w b m a : ℕ) (z : Node) → b < length R → (at R b).node ≡ Body → (at R b).region ≡ arm_at w true → IsStatement R b m
-    → (at R m).node ≡ z → turned_by m z ≡ Some a → BodyTurns R w a
-body-stated R w b m a (Binding x c) l e r s f q = let k : c ≡ a = cc in let P : ℕ → Type 0 = λ d. BodyTurns R w d in subst P k (of_binding l e r s f)
-body-stated R w b m a (Store c x) l e r s f q = let k : m ≡ a = cc in let P : ℕ → Type 0 = λ d. BodyTurns R w d in subst P k (of_store l e r s f)
+body-stated : (R : List Row) (w b m a : ℕ) (z : Node) → b < length R → (at R b).node ≡ Body
+    → (at R b).region ≡ arm_at w true → IsStatement R b m → (at R m).node ≡ z → turned_by m z ≡ Some a → BodyTurns R w a
+body-stated R w b m a (Binding x c) l e r s f q =
+    let k : c ≡ a = cc in let P : ℕ → Type 0 = λ d. BodyTurns R w d in subst P k (of_binding l e r s f)
+body-stated R w b m a (Store c x) l e r s f q =
+    let k : m ≡ a = cc in let P : ℕ → Type 0 = λ d. BodyTurns R w d in subst P k (of_store l e r s f)
 body-stated R w b m a _ l e r s f q = cc
 
 -- a call's arguments are none of these parts
@@ -213,7 +240,8 @@ part-plain R a (Call e c) h = absurd h
 part-plain R a _ h = refl
 
 -- the switches whose true side a row is right in
-switches-by : (w h : ℕ) (side is : Bool) → (if side && is then Some h else None) ≡ Some w → (side ≡ true) × (is ≡ true) × (h ≡ w)
+switches-by : (w h : ℕ) (side is : Bool) → (if side && is then Some h else None) ≡ Some w
+    → (side ≡ true) × (is ≡ true) × (h ≡ w)
 switches-by w h true true e = (refl, refl, let q : h ≡ w = cc in q)
 switches-by w h true false e = cc
 switches-by w h false is e = cc
@@ -221,16 +249,19 @@ switches-by w h false is e = cc
 region-of : ℕ → Bool → Region
 region-of h b = record { head = h; side = b }
 
-switches-some : (R : List Row) (r : Row) (w : ℕ) → switches_of R r ≡ Some w → (is_switches (at R w).node ≡ true) × (r.region ≡ arm_at w true)
+switches-some : (R : List Row) (r : Row) (w : ℕ) → switches_of R r ≡ Some w
+    → (is_switches (at R w).node ≡ true) × (r.region ≡ arm_at w true)
 unfolding region-of
 switches-some R r w e =
     let t = switches-by w r.region.head r.region.side (is_switches (at R r.region.head).node) e in
     let P : ℕ → Type 0 = λ i. is_switches (at R i).node ≡ true in
     (subst P t.2 t.1, ap (λ b. region-of r.region.head b) t.0 ∙ ap (λ i. region-of i true) t.2)
 
-some-switches : (R : List Row) (r : Row) (w : ℕ) → is_switches (at R w).node ≡ true → r.region ≡ arm_at w true → switches_of R r ≡ Some w
+some-switches : (R : List Row) (r : Row) (w : ℕ) → is_switches (at R w).node ≡ true → r.region ≡ arm_at w true
+    → switches_of R r ≡ Some w
 some-switches R r w s e =
-    ap (λ g. if g.side && is_switches (at R g.head).node then Some g.head else None) e ∙ ap (λ b. if b then Some w else None) s
+    ap (λ g. if g.side && is_switches (at R g.head).node then Some g.head else None) e
+    ∙ ap (λ b. if b then Some w else None) s
 
 from-some : (o : Option ℕ) (n : ℕ) → From o n → o ≡ Some n
 from-some None n h = absurd h
@@ -243,8 +274,10 @@ next-node (Next x k o v) a (inr f) = absurd f
 next-node _ a h = absurd h
 
 -- at a row its parts are added, and the expression that it is the `next` of
-module _ (R : List Row) (n : ℕ) (E D F : Edges) (ss : List Statement) (w : n < length R) (t : AreTurnsTo R n E) (o : AreOpen R n ss)
-    (g : Gains E D n (parts_turned R (at R n).node)) (f : GainsFrom D F (switches_of R (at R n)) (nexts_turned (at R n).node)) where
+module _ (R : List Row) (n : ℕ) (E D F : Edges) (ss : List Statement) (w : n < length R) (t : AreTurnsTo R n E)
+    (o : AreOpen R n ss)
+    (g : Gains E D n (parts_turned R (at R n).node))
+    (f : GainsFrom D F (switches_of R (at R n)) (nexts_turned (at R n).node)) where
   more : GainsBy D F (switches_of R (at R n)) (nexts_turned (at R n).node)
   more = gains-by D F (switches_of R (at R n)) (nexts_turned (at R n).node) f
 
@@ -273,8 +306,8 @@ module _ (R : List Row) (n : ℕ) (E D F : Edges) (ss : List Statement) (w : n <
 
   -- with all that was there, and what this row's statements give
   parts-next : (G : Edges) → ((m b : ℕ) → Leads F m b → Leads G m b)
-      → ((a m : ℕ) → IsStatement R n m → turned_by m (at R m).node ≡ Some a → is_call (at R n).node ≡ false → Turns R n a → Leads G n a)
-      → (m a : ℕ) → m < suc n → m < length R → PartTurns R m a → Leads G m a
+      → ((a m : ℕ) → IsStatement R n m → turned_by m (at R m).node ≡ Some a → is_call (at R n).node ≡ false
+      → Turns R n a → Leads G n a) → (m a : ℕ) → m < suc n → m < length R → PartTurns R m a → Leads G m a
   parts-next G up stated m a l v h = elim (eqb_tells m n) [
     | inl q ↦
         let P : ℕ → Type 0 = λ j. PartTurns R j a in
@@ -287,8 +320,8 @@ module _ (R : List Row) (n : ℕ) (E D F : Edges) (ss : List Statement) (w : n <
     | inr q ↦ (let s : m < n = let d = q.1 in omega arith in up m a (old m a (t.parts m a s v h)))
   ]
 
-  nexts-next : (G : Edges) → ((m b : ℕ) → Leads F m b → Leads G m b) → (u m x k e a : ℕ) → m < suc n → m < length R → u < length R
-      → is_switches (at R u).node ≡ true
+  nexts-next : (G : Edges) → ((m b : ℕ) → Leads F m b → Leads G m b) → (u m x k e a : ℕ) → m < suc n → m < length R
+      → u < length R → is_switches (at R u).node ≡ true
       → (at R m).node ≡ Next x k e a → (at R m).region ≡ arm_at u true → Leads G u a
   nexts-next G up u m x k e a l v c is z r = elim (eqb_tells m n) [
     | inl q ↦
@@ -302,9 +335,10 @@ module _ (R : List Row) (n : ℕ) (E D F : Edges) (ss : List Statement) (w : n <
   ]
 
   bodies-next : (G : Edges) → ((m b : ℕ) → Leads F m b → Leads G m b)
-      → ((u m a : ℕ) → u < length R → is_switches (at R u).node ≡ true → (at R n).node ≡ Body → (at R n).region ≡ arm_at u true → IsStatement R n m
-      → turned_by m (at R m).node ≡ Some a → Leads G u a)
-      → (u b m a : ℕ) → b < suc n → b < length R → u < length R → is_switches (at R u).node ≡ true → (at R b).node ≡ Body → (at R b).region ≡ arm_at u true
+      → ((u m a : ℕ) → u < length R → is_switches (at R u).node ≡ true → (at R n).node ≡ Body
+      → (at R n).region ≡ arm_at u true → IsStatement R n m → turned_by m (at R m).node ≡ Some a → Leads G u a)
+      → (u b m a : ℕ) → b < suc n → b < length R → u < length R → is_switches (at R u).node ≡ true
+      → (at R b).node ≡ Body → (at R b).region ≡ arm_at u true
       → IsStatement R b m → turned_by m (at R m).node ≡ Some a → Leads G u a
   bodies-next G up stated u b m a l v c is z r i e = elim (eqb_tells b n) [
     | inl q ↦
@@ -317,8 +351,10 @@ module _ (R : List Row) (n : ℕ) (E D F : Edges) (ss : List Statement) (w : n <
   plain-turns : has_statements (at R n).node ≡ false → AreTurnsTo R (suc n) F
   plain-turns b = record {
     wide = wide-of ∙ t.wide;
-    parts = parts-next F (λ m b h. h) (λ a m s e c u. (let d : true ≡ false = sym s.block ∙ b in absurd (true≢false d)));
-    bodies = bodies-next F (λ m b h. h) (λ u m a c is z r i e. (let d : true ≡ false = sym i.block ∙ b in absurd (true≢false d)));
+    parts = parts-next F (λ m b h. h) (λ a m s e c u. (let d : true ≡ false = sym s.block ∙ b in
+        absurd (true≢false d)));
+    bodies = bodies-next F (λ m b h. h) (λ u m a c is z r i e. (let d : true ≡ false = sym i.block ∙ b in
+        absurd (true≢false d)));
     nexts = nexts-next F (λ m b h. h);
     only = from;
   }
@@ -328,13 +364,16 @@ module _ (R : List Row) (n : ℕ) (E D F : Edges) (ss : List Statement) (w : n <
   right-before b h = (or-false (in_block R b n) (has_statements (at R n).node && around R n b) h).0
 
   right-after : (b : ℕ) → has_statements (at R n).node ≡ false → in_block R b n ≡ false → in_block R b (suc n) ≡ false
-  right-after b k h = both-false (in_block R b n) (has_statements (at R n).node && around R n b) h (and-first (has_statements (at R n).node) (around R n b) k)
+  right-after b k h =
+      both-false (in_block R b n) (has_statements (at R n).node && around R n b) h
+      (and-first (has_statements (at R n).node) (around R n b) k)
 
   plain-open : has_statements (at R n).node ≡ false → is_statement (at R n).node ≡ false → AreOpen R (suc n) ss
   plain-open k j = record {
     all = λ m a l w e h. elim (eqb_tells m n) [
       | inl q ↦
-          let f : true ≡ false = sym (turned-statement m a (at R m).node e) ∙ ap (λ i. is_statement (at R i).node) q.1 ∙ j in
+          let f : true ≡ false =
+          sym (turned-statement m a (at R m).node e) ∙ ap (λ i. is_statement (at R i).node) q.1 ∙ j in
           absurd (true≢false f)
       | inr q ↦ (let s : m < n = let d = q.1 in omega arith in o.all m a s w e (right-before m h))
     ];
@@ -359,7 +398,9 @@ module _ (R : List Row) (n : ℕ) (E D F : Edges) (ss : List Statement) (w : n <
           | inl i ↦ (let z = o.only s i in (omega (arith, z.0), right-after s.row plain z.1, z.2))
           | inr i ↦ elim i [
             | inl q ↦
-                let P : Statement → Type 0 = λ z. (z.row < suc n) × (in_block R z.row (suc n) ≡ false) × (turned_by z.row (at R z.row).node ≡ Some z.value) in
+                let P : Statement → Type 0 =
+                λ z. (z.row < suc n) × (in_block R z.row (suc n) ≡ false)
+                × (turned_by z.row (at R z.row).node ≡ Some z.value) in
                 let l : n < suc n = omega arith in
                 subst P (sym q) (l, in_block-before R n (suc n) (omega arith), e)
             | inr f ↦ absurd f
@@ -368,7 +409,8 @@ module _ (R : List Row) (n : ℕ) (E D F : Edges) (ss : List Statement) (w : n <
         rise = λ i j s u h k l. elim (slice_get-either ss new i s h) [
           | inl p ↦ elim (slice_get-either ss new j u k) [
             | inl r ↦ o.rise i j s u p r l
-            | inr r ↦ (let z = (o.only s (Among-from_at s ss i p)).0 in let f : u.row ≡ n = ap (λ v. v.row) r.1 in omega arith)
+            | inr r ↦ (let z = (o.only s (Among-from_at s ss i p)).0 in let f : u.row ≡ n = ap (λ v. v.row) r.1 in
+                omega arith)
           ]
           | inr p ↦ elim (slice_get-either ss new j u k) [
             | inl r ↦ (let z = slice_get_within ss j u r in let d = p.0 in absurd (omega arith))
@@ -378,8 +420,8 @@ module _ (R : List Row) (n : ℕ) (E D F : Edges) (ss : List Statement) (w : n <
       }
 
   -- at a block its statements are added, and wait no longer
-  gone-by : (G : Edges) (ts : List Statement) (p : Option ℕ) (u m a : ℕ) → p ≡ Some u → u < length R → IsStatement R n m → turned_by m (at R m).node ≡ Some a
-      → TakesAll F G ss ts (at R n).first p → Leads G u a
+  gone-by : (G : Edges) (ts : List Statement) (p : Option ℕ) (u m a : ℕ) → p ≡ Some u → u < length R → IsStatement R n m
+      → turned_by m (at R m).node ≡ Some a → TakesAll F G ss ts (at R n).first p → Leads G u a
   gone-by G ts p u m a e l s b k =
       let r = around-within R n m s.inside in
       let y = o.all m a r.1 (omega arith) b s.right in
@@ -392,12 +434,20 @@ module _ (R : List Row) (n : ℕ) (E D F : Edges) (ss : List Statement) (w : n <
             subst A y.3 (j.1 u e (omega arith))
       ]
 
-  statement-of : (s : Statement) → Among s ss → (at R n).first ≤ s.row → has_statements (at R n).node ≡ true → IsStatement R n s.row
+  statement-of : (s : Statement) → Among s ss → (at R n).first ≤ s.row → has_statements (at R n).node ≡ true
+      → IsStatement R n s.row
   statement-of s i l b =
       let z = o.only s i in
-      record { block = b; statement = turned-statement s.row s.value (at R s.row).node z.2; inside = around-true R n s.row l z.0; right = z.1 }
+      record {
+        block = b;
+        statement = turned-statement s.row s.value (at R s.row).node z.2;
+        inside =
+            around-true R n s.row l z.0;
+        right = z.1;
+      }
 
-  block-turns : (G : Edges) (ts : List Statement) (b : ℕ) → (at R n).node ≡ Block b → TakesAll F G ss ts (at R n).first (Some n) → AreTurnsTo R (suc n) G
+  block-turns : (G : Edges) (ts : List Statement) (b : ℕ) → (at R n).node ≡ Block b
+      → TakesAll F G ss ts (at R n).first (Some n) → AreTurnsTo R (suc n) G
   block-turns G ts b e k = record {
     wide = k.takes.wide ∙ wide-of ∙ t.wide;
     parts = parts-next G k.takes.kept (λ a m s d c u. gone-by G ts (Some n) n m a refl w s d k);
@@ -410,16 +460,22 @@ module _ (R : List Row) (n : ℕ) (E D F : Edges) (ss : List Statement) (w : n <
           let P : ℕ → Type 0 = λ j. TurnsOn R j a in
           let A : ℕ → Type 0 = λ c. TurnsOn R n c in
           let is = statement-of s i.1.1 i.1.2 (ap has_statements e) in
-          subst P (sym i.0) (subst A (sym i.1.3) (inl (stated-turns R n b s.row s.value (at R s.row).node e is refl (o.only s i.1.1).2, ap is_call e)))
+          subst P (sym i.0)
+          (subst A (sym i.1.3) (inl (
+            stated-turns R n b s.row s.value (at R s.row).node e is refl (o.only s i.1.1).2,
+            ap is_call e,
+          )))
     ];
   }
 
   -- and at the end of a loop's body
-  body-turns : (G : Edges) (ts : List Statement) → (at R n).node ≡ Body → TakesAll F G ss ts (at R n).first (switches_of R (at R n)) → AreTurnsTo R (suc n) G
+  body-turns : (G : Edges) (ts : List Statement) → (at R n).node ≡ Body
+      → TakesAll F G ss ts (at R n).first (switches_of R (at R n)) → AreTurnsTo R (suc n) G
   body-turns G ts e k = record {
     wide = k.takes.wide ∙ wide-of ∙ t.wide;
     parts = parts-next G k.takes.kept (λ a m s d c u. absurd (none-turned (at R n).node e u));
-    bodies = bodies-next G k.takes.kept (λ u m a c is z r i d. gone-by G ts (switches_of R (at R n)) u m a (some-switches R (at R n) u is r) c i d k);
+    bodies = bodies-next G k.takes.kept
+        (λ u m a c is z r i d. gone-by G ts (switches_of R (at R n)) u m a (some-switches R (at R n) u is r) c i d k);
     nexts = nexts-next G k.takes.kept;
     only = λ m a h. elim (k.takes.only m a h) [
       | inl i ↦ from m a i
@@ -428,7 +484,8 @@ module _ (R : List Row) (n : ℕ) (E D F : Edges) (ss : List Statement) (w : n <
           let A : ℕ → Type 0 = λ c. TurnsOn R m c in
           let is = statement-of s i.1.1 i.1.2 (ap has_statements e) in
           let z = switches-some R (at R n) m (from-some (switches_of R (at R n)) m i.0) in
-          subst A (sym i.1.3) (inr (z.0, body-stated R m n s.row s.value (at R s.row).node w e z.1 is refl (o.only s i.1.1).2))
+          subst A (sym i.1.3)
+          (inr (z.0, body-stated R m n s.row s.value (at R s.row).node w e z.1 is refl (o.only s i.1.1).2))
     ];
   }
     where
@@ -451,12 +508,13 @@ module _ (R : List Row) (n : ℕ) (E D F : Edges) (ss : List Statement) (w : n <
       none-turned z e (stored_value h) = cc
       none-turned z e (stored h i j) = cc
 
-  block-open : (G : Edges) (ts : List Statement) (p : Option ℕ) → has_statements (at R n).node ≡ true → TakesAll F G ss ts (at R n).first p
-      → AreOpen R (suc n) ts
+  block-open : (G : Edges) (ts : List Statement) (p : Option ℕ) → has_statements (at R n).node ≡ true
+      → TakesAll F G ss ts (at R n).first p → AreOpen R (suc n) ts
   block-open G ts p e k = record {
     all = λ m a l w f h. elim (eqb_tells m n) [
       | inl q ↦
-          let c : false ≡ true = sym (plain-statement m a (at R m).node f) ∙ ap (λ i. has_statements (at R i).node) q.1 ∙ e in
+          let c : false ≡ true =
+          sym (plain-statement m a (at R m).node f) ∙ ap (λ i. has_statements (at R i).node) q.1 ∙ e in
           absurd (true≢false (sym c))
       | inr q ↦
           let s : m < n = let d = q.1 in omega arith in
@@ -473,7 +531,8 @@ module _ (R : List Row) (n : ℕ) (E D F : Edges) (ss : List Statement) (w : n <
     only = λ s h.
         let z = o.only s (k.takes.some s h) in
         let c = k.before s h in
-        let u : around R n s.row ≡ false = and-first (nat_le (at R n).first s.row) (nat_lt s.row n) (lt-leb (at R n).first s.row c) in (
+        let u : around R n s.row ≡ false =
+        and-first (nat_le (at R n).first s.row) (nat_lt s.row n) (lt-leb (at R n).first s.row c) in (
           omega (arith, z.0),
           both-false (in_block R s.row n) (has_statements (at R n).node && around R n s.row) z.1
               (and-late (has_statements (at R n).node) (around R n s.row) u),
@@ -486,28 +545,34 @@ module _ (R : List Row) (n : ℕ) (E D F : Edges) (ss : List Statement) (w : n <
   abbrev After : Edges → List Statement → Type 0
   After G ts = AreTurnsTo R (suc n) G × AreOpen R (suc n) ts
 
-  plain : (G : Edges) (ts : List Statement) → has_statements (at R n).node ≡ false → is_statement (at R n).node ≡ false → (G ≡ F) × (ts ≡ ss) → After G ts
+  plain : (G : Edges) (ts : List Statement) → has_statements (at R n).node ≡ false → is_statement (at R n).node ≡ false
+      → (G ≡ F) × (ts ≡ ss) → After G ts
   plain G ts b c h =
       let P : Edges → Type 0 = λ H. AreTurnsTo R (suc n) H in
       let Q : List Statement → Type 0 = λ us. AreOpen R (suc n) us in
       (subst P (sym h.0) (plain-turns b), subst Q (sym h.1) (plain-open b c))
 
-  after : (G : Edges) (ts : List Statement) (z : Node) → (at R n).node ≡ z → Statements_at F G ss ts n (at R n).first (switches_of R (at R n)) z → After G ts
+  after : (G : Edges) (ts : List Statement) (z : Node) → (at R n).node ≡ z
+      → Statements_at F G ss ts n (at R n).first (switches_of R (at R n)) z → After G ts
   after G ts (Block b) e h = (block-turns G ts b e h, block-open G ts (Some n) (ap has_statements e) h)
   after G ts Body e h = (body-turns G ts e h, block-open G ts (switches_of R (at R n)) (ap has_statements e) h)
   after G ts (Binding x a) e h =
       let P : Edges → Type 0 = λ H. AreTurnsTo R (suc n) H in
-      let Q : List Statement → Type 0 = λ us. AreOpen R (suc n) us in
-      (subst P (sym h.0) (plain-turns (ap has_statements e)), subst Q (sym h.1) (binding-open a (ap (λ z. turned_by n z) e) (ap has_statements e)))
+      let Q : List Statement → Type 0 = λ us. AreOpen R (suc n) us in (
+        subst P (sym h.0) (plain-turns (ap has_statements e)),
+        subst Q (sym h.1) (binding-open a (ap (λ z. turned_by n z) e) (ap has_statements e)),
+      )
   after G ts (Store a x) e h =
       let P : Edges → Type 0 = λ H. AreTurnsTo R (suc n) H in
-      let Q : List Statement → Type 0 = λ us. AreOpen R (suc n) us in
-      (subst P (sym h.0) (plain-turns (ap has_statements e)), subst Q (sym h.1) (binding-open n (ap (λ z. turned_by n z) e) (ap has_statements e)))
+      let Q : List Statement → Type 0 = λ us. AreOpen R (suc n) us in (
+        subst P (sym h.0) (plain-turns (ap has_statements e)),
+        subst Q (sym h.1) (binding-open n (ap (λ z. turned_by n z) e) (ap has_statements e)),
+      )
   after G ts _ e h = plain G ts (ap has_statements e) (ap is_statement e) h
 
 -- what one row more turns On, and the statements that wait then
-pub turns-step : (R : List Row) (n m : ℕ) (E D F G : Edges) (ss ts : List Statement) (r : Row) → m ≡ suc n → n < length R → r ≡ at R n → AreTurnsTo R n E
-    → AreOpen R n ss
+pub turns-step : (R : List Row) (n m : ℕ) (E D F G : Edges) (ss ts : List Statement) (r : Row) → m ≡ suc n
+    → n < length R → r ≡ at R n → AreTurnsTo R n E → AreOpen R n ss
     → Gains E D n (parts_turned R r.node) → GainsFrom D F (switches_of R r)
     (nexts_turned r.node) → Statements R F G ss ts n r → AreTurnsTo R m G × AreOpen R m ts
 turns-step R n m E D F G ss ts r q w e t o g f h =
@@ -517,7 +582,8 @@ turns-step R n m E D F G ss ts r q w e t o g f h =
     let C : Row → Type 0 = λ x. Statements R F G ss ts n x in
     subst P (sym q) (after R n E D F ss w t o (subst A e g) (subst B e f) G ts (at R n).node refl (subst C e h))
 
-pub turns-init : (R : List Row) (E : Edges) (ss : List Statement) → AreNone E (length R) → ss ≡ [] → AreTurnsTo R 0 E × AreOpen R 0 ss
+pub turns-init : (R : List Row) (E : Edges) (ss : List Statement) → AreNone E (length R) → ss ≡ []
+    → AreTurnsTo R 0 E × AreOpen R 0 ss
 turns-init R E ss k e =
     let P : List Statement → Type 0 = λ xs. AreOpen R 0 xs in (
       record {
@@ -527,11 +593,17 @@ turns-init R E ss k e =
         nexts = λ u m x i e a l v c is z r. absurd (omega arith);
         only = λ n a h. absurd (k.none n a h);
       },
-      subst P (sym e) (record { all = λ m a l w f h. absurd (omega arith); only = λ s h. absurd h; rise = λ i j s u h v l. cc }),
+      subst P (sym e) (record {
+        all = λ m a l w f h. absurd (omega arith);
+        only = λ s h. absurd h;
+        rise =
+            λ i j s u h v l. cc;
+      }),
     )
 
 -- what one row more reads
-pub reads-step : (P : Checked) (n m : ℕ) (E F : Edges) → m ≡ suc n → AreReadsTo P n E → GainsTo E F (linked_at P n) n → AreReadsTo P m F
+pub reads-step : (P : Checked) (n m : ℕ) (E F : Edges) → m ≡ suc n → AreReadsTo P n E → GainsTo E F (linked_at P n) n
+    → AreReadsTo P m F
 reads-step P n m E F q t g = record {
   wide = g.wide ∙ t.wide;
   all = λ k a l w h. elim (eqb_tells k n) [
@@ -545,7 +617,8 @@ reads-step P n m E F q t g = record {
 }
 
 -- what asks for one row more
-pub args-step : (P : Checked) (n m : ℕ) (E F : Edges) → m ≡ suc n → AreArgsTo P n E → GainsTo E F (some_row (asker_at (rows P) n)) n → AreArgsTo P m F
+pub args-step : (P : Checked) (n m : ℕ) (E F : Edges) → m ≡ suc n → AreArgsTo P n E
+    → GainsTo E F (some_row (asker_at (rows P) n)) n → AreArgsTo P m F
 args-step P n m E F q t g = record {
   wide = g.wide ∙ t.wide;
   all = λ k e w l is. elim (eqb_tells k n) [
@@ -559,8 +632,8 @@ args-step P n m E F q t g = record {
 }
 
 -- where the row is read of another list
-pub args-by : (P : Checked) (n m : ℕ) (E F : Edges) (R : List Row) (b : Option ℕ) → m ≡ suc n → R ≡ rows P → b ≡ asker_at R n → AreArgsTo P n E
-    → GainsTo E F (some_row b) n → AreArgsTo P m F
+pub args-by : (P : Checked) (n m : ℕ) (E F : Edges) (R : List Row) (b : Option ℕ) → m ≡ suc n → R ≡ rows P
+    → b ≡ asker_at R n → AreArgsTo P n E → GainsTo E F (some_row b) n → AreArgsTo P m F
 args-by P n m E F R b q r e t g =
     let A : List Row → Type 0 = λ xs. GainsTo E F (some_row (asker_at xs n)) n in
     let B : Option ℕ → Type 0 = λ o. GainsTo E F (some_row o) n in
@@ -576,8 +649,8 @@ turns-end R n E l t = record {
 }
 
 -- where the row is read of another list, and the row beyond its parts is given
-pub reads-by : (P : Checked) (n m : ℕ) (E F : Edges) (R : List Row) (b : Option ℕ) → m ≡ suc n → R ≡ rows P → b ≡ beyond P n (at R n).node
-    → AreReadsTo P n E → GainsTo E F (linked_of R b (at R n).node) n → AreReadsTo P m F
+pub reads-by : (P : Checked) (n m : ℕ) (E F : Edges) (R : List Row) (b : Option ℕ) → m ≡ suc n → R ≡ rows P
+    → b ≡ beyond P n (at R n).node → AreReadsTo P n E → GainsTo E F (linked_of R b (at R n).node) n → AreReadsTo P m F
 reads-by P n m E F R b q r e t g =
     let A : List Row → Type 0 = λ xs. GainsTo E F (linked_of xs (beyond P n (at xs n).node) (at xs n).node) n in
     let B : Option ℕ → Type 0 = λ o. GainsTo E F (linked_of R o (at R n).node) n in

@@ -7,11 +7,15 @@ use Rattle.id_source.specs.declared.Fact.{Fact}
 use Rattle.id_source.specs.declared.Fact.TheVariants.{On, Has, Shape, Put, Ask}
 use Rattle.id_source.specs.Sources.{Source}
 use Rattle.id_check.specs.Programs.{place}
-use Rattle.id_source.specs.Facts.{below, Rule, main_on, param_has, literal_has, operand_on, left_on, right_on, unary_has, binary_has, name_has, test_on}
-use Rattle.id_source.specs.Facts.{arm_on, conditional_has, GoesOn, by_predicate, by_bounds, by_index, lower_on, upper_on, index_begins, index_counts}
-use Rattle.id_source.specs.Facts.{argument_on, callee_on, argument_has, call_has, loop_test_on, first_has, turn_on, loop_statement_on, next_on, next_has}
+use Rattle.id_source.specs.Facts.{below, Rule, main_on, param_has, literal_has, operand_on, left_on, right_on}
+use Rattle.id_source.specs.Facts.{unary_has, binary_has, name_has, test_on}
+use Rattle.id_source.specs.Facts.{arm_on, conditional_has, GoesOn, by_predicate, by_bounds, by_index, lower_on}
+use Rattle.id_source.specs.Facts.{upper_on, index_begins, index_counts}
+use Rattle.id_source.specs.Facts.{argument_on, callee_on, argument_has, call_has, loop_test_on, first_has, turn_on}
+use Rattle.id_source.specs.Facts.{loop_statement_on, next_on, next_has}
 use Rattle.id_source.specs.Facts.{last_on, loop_has, statement_on, body_on, block_has, binding_has}
-use Rattle.id_source.specs.Facts.{loop_store_on, store_on, bounds_low_on, bounds_high_on, shape_made, array_has, fetch_target_on, fetch_index_on, asks}
+use Rattle.id_source.specs.Facts.{loop_store_on, store_on, bounds_low_on, bounds_high_on, shape_made, array_has}
+use Rattle.id_source.specs.Facts.{fetch_target_on, fetch_index_on, asks}
 use Rattle.id_source.specs.Facts.{fetch_has, store_target_on, store_index_on, store_value_on, puts}
 use Rattle.id_source.specs.Rounds.{Every, Rounds}
 
@@ -66,12 +70,13 @@ unfolding step_of
 last-in n p e k h = Small-last n p.steps (step_of e k) h
 
 -- where a loop goes on or not
-goes-small : {S : Source} (n m w : ℕ) (p : Path) (k : ℕ) (c : Truth) {fs : List Fact} → GoesOn S m w p k c fs → Every (SmallIn n) fs
-    → Small (suc n) (below p (place S.checked m) k).steps
+goes-small : {S : Source} (n m w : ℕ) (p : Path) (k : ℕ) (c : Truth) {fs : List Fact} → GoesOn S m w p k c fs
+    → Every (SmallIn n) fs → Small (suc n) (below p (place S.checked m) k).steps
 goes-small {S} n m w p k c (by_predicate j s) h = more-in n (below p (place S.checked m) k) h.0
 goes-small {S} n m w p k c (by_bounds s e) h = push-in n p (place S.checked m) 0 h.0 (omega arith)
 goes-small {S} n m w p k c (by_index j s e) h =
-    let l = last-in n p (place S.checked m) j h.0 in push-in n p (place S.checked m) (suc j) (front-in n p (place S.checked m) j h.0) (omega arith)
+    let l = last-in n p (place S.checked m) j h.0 in
+    push-in n p (place S.checked m) (suc j) (front-in n p (place S.checked m) j h.0) (omega arith)
 
 by-rule : {S : Source} {fs : List Fact} {f : Fact} (n : ℕ) → Rule S fs f → Every (SmallIn n) fs → SmallIn (suc n) f
 by-rule n main_on h = tt
@@ -95,11 +100,13 @@ by-rule n (first_has {p = p} st x b) h = push-in n p _ 0 h.0 (omega arith)
 by-rule n (lower_on {p = p} s) h = more-in n p h.0
 by-rule n (upper_on {p = p} s) h = more-in n p h.0
 by-rule n (index_begins {p = p} s e) h = push-in n p _ 0 h.0 (omega arith)
-by-rule n (index_counts p k s e) h = let l = last-in n p _ k h.0 in push-in n p _ (suc k) (front-in n p _ k h.0) (omega arith)
+by-rule n (index_counts p k s e) h =
+    let l = last-in n p _ k h.0 in push-in n p _ (suc k) (front-in n p _ k h.0) (omega arith)
 by-rule n (turn_on p k st) h = let l = last-in n p _ k h.0 in push-in n p _ (suc k) (front-in n p _ k h.0) (omega arith)
 by-rule n (loop_statement_on {n = m} {w = w} p k st o b) h = goes-small n m w p k true o h
 by-rule n (next_on {n = m} {w = w} p k st o x) h = goes-small n m w p k true o h
-by-rule n (next_has p k st x) h = let l = last-in n p _ k h.0 in push-in n p _ (suc k) (front-in n p _ k h.0) (omega arith)
+by-rule n (next_has p k st x) h =
+    let l = last-in n p _ k h.0 in push-in n p _ (suc k) (front-in n p _ k h.0) (omega arith)
 by-rule n (last_on {n = m} {w = w} p k st o) h = goes-small n m w p k false o h
 by-rule n (loop_has p k st) h = more-in n p (front-in n p _ k h.0)
 by-rule n (statement_on {p = p} st i t) h = more-in n p h.0
@@ -134,5 +141,6 @@ round-small S (suc n) f (inr t) = by-rule n t.1 (each (λ g h. round-small S n g
     each one (g ∷ fs) h = (one g h.0, each one fs h.1)
 
 -- the number of an iteration in which something has a value
-pub last-number : (S : Source) (n : ℕ) (p : Path) (e k a : ℕ) (v : SourceValue) → Rounds S n (Has (below p e k) a v) → k ≤ n
+pub last-number : (S : Source) (n : ℕ) (p : Path) (e k a : ℕ) (v : SourceValue) → Rounds S n (Has (below p e k) a v)
+    → k ≤ n
 last-number S n p e k a v h = last-in n p e k (round-small S n (Has (below p e k) a v) h)

@@ -1,5 +1,6 @@
 -- The rows of a procedure's parameters, and their inputs.
-use Rattle.std.proofs.Common.{◌≡◌, inl, inr, ℕ, zero, suc, ◌<◌, Bool, true, false, Some, List, [], ◌∷◌, ◌++◌, nat_eq, length, if◌then◌else◌, refl, ap, sym, ◌∙◌}
+use Rattle.std.proofs.Common.{◌≡◌, inl, inr, ℕ, zero, suc, ◌<◌, Bool, true, false, Some, List, [], ◌∷◌, ◌++◌, nat_eq}
+use Rattle.std.proofs.Common.{length, if◌then◌else◌, refl, ap, sym, ◌∙◌}
 use Rattle.std.proofs.Common.{subst, arith}
 use Rattle.std.specs.Prelude.{slice_get, ◌&&◌}
 use Rattle.id_value.specs.List.{AllDiffer, Among}
@@ -24,7 +25,8 @@ below-more : (R : List Row) (n b : ℕ) → IsParamBelow R n b → IsParamBelow 
 below-more R n b (l, t) = (omega arith, t)
 
 params-step : (R : List Row) (h n b : ℕ) (t : Bool) → ((i : Among b (params_below R h n)) → IsParamBelow R n b)
-    → is_param (at R n).node && nat_eq (at R n).block h ≡ t → Among b (if t then params_below R h n ++ n ∷ [] else params_below R h n)
+    → is_param (at R n).node && nat_eq (at R n).block h ≡ t
+    → Among b (if t then params_below R h n ++ n ∷ [] else params_below R h n)
     → IsParamBelow R (suc n) b
 params-step R h n b true before e m = elim (Among-either b (params_below R h n) (n ∷ []) m) [
   | inl i ↦ below-more R n b (before i)
@@ -40,9 +42,11 @@ params-step R h n b false before e m = below-more R n b (before m)
 -- the parameters are parameters
 pub params-among : (R : List Row) (h n b : ℕ) → Among b (params_below R h n) → IsParamBelow R n b
 params-among R h zero b k = absurd k
-params-among R h (suc n) b k = params-step R h n b (is_param (at R n).node && nat_eq (at R n).block h) (params-among R h n b) refl k
+params-among R h (suc n) b k =
+    params-step R h n b (is_param (at R n).node && nat_eq (at R n).block h) (params-among R h n b) refl k
 
-differ-step : (R : List Row) (h n : ℕ) (t : Bool) → AllDiffer (params_below R h n) → AllDiffer (if t then params_below R h n ++ n ∷ [] else params_below R h n)
+differ-step : (R : List Row) (h n : ℕ) (t : Bool) → AllDiffer (params_below R h n)
+    → AllDiffer (if t then params_below R h n ++ n ∷ [] else params_below R h n)
 differ-step R h n true d =
     AllDiffer-append (params_below R h n) (n ∷ []) d ((λ k. k), tt)
     (λ b i j. elim j [ inl q ↦ (let l = (params-among R h n b i).0 in omega arith) | inr f ↦ f ])
@@ -54,7 +58,8 @@ params-differ R h zero = tt
 params-differ R h (suc n) = differ-step R h n (is_param (at R n).node && nat_eq (at R n).block h) (params-differ R h n)
 
 -- what comes once stands at one place
-pub once : {A : Type 0} (xs : List A) (x : A) (i j : ℕ) → AllDiffer xs → slice_get xs i ≡ Some x → slice_get xs j ≡ Some x → i ≡ j
+pub once : {A : Type 0} (xs : List A) (x : A) (i j : ℕ) → AllDiffer xs → slice_get xs i ≡ Some x
+    → slice_get xs j ≡ Some x → i ≡ j
 once [] x i j d h k = cc
 once (y ∷ xs) x zero zero d h k = refl
 once {A} (y ∷ xs) x zero (suc j) d h k =
@@ -77,7 +82,9 @@ one_input {S} {b} {v} {w} i j =
     cc
 
 -- and it is one
-pub input_param : {S : Source} {b : ℕ} {v : Constant} → IsInput S b v → (b < length (rows S.checked)) × (is_param (at (rows S.checked) b).node ≡ true)
+pub input_param : {S : Source} {b : ℕ} {v : Constant} → IsInput S b v
+    → (b < length (rows S.checked)) × (is_param (at (rows S.checked) b).node ≡ true)
 input_param {S} {b} i =
     let R = rows S.checked in
-    params-among R (head_of (at R S.checked.main).node) (length R) b (Among-from_at b (main_params S.checked) i.number i.param)
+    params-among R (head_of (at R S.checked.main).node) (length R) b
+    (Among-from_at b (main_params S.checked) i.number i.param)

@@ -1,5 +1,6 @@
 -- How paths compare: by their steps, a prefix first.
-use Rattle.std.proofs.Common.{◌≡◌, ℕ, ◌<◌, List, [], ◌∷◌, Ordering, Less, Equal, Greater, ◌⊎◌, inl, inr, refl, sym, ap, ◌∙◌, arith}
+use Rattle.std.proofs.Common.{◌≡◌, ℕ, ◌<◌, List, [], ◌∷◌, Ordering, Less, Equal, Greater, ◌⊎◌, inl, inr, refl, sym, ap}
+use Rattle.std.proofs.Common.{◌∙◌, arith}
 use Rattle.std.specs.Ordering.{nat_cmp, ordering_then}
 use Rattle.std.specs.Cmp.{IsTotalOrder}
 use Rattle.std.specs.Cmp.Lexicographic.{slice_cmp}
@@ -44,12 +45,14 @@ step_total = then_total (on_total (λ s. s.place) nat_cmp_total) (on_total (λ s
 pub step_less : (s t : PathStep) → StepBefore s t → step_cmp s t ≡ Less
 step_less s t (inl h) = ap (λ o. ordering_then o (nat_cmp s.number t.number)) (number_less s.place t.place h)
 step_less s t (inr h) =
-    ap (λ o. ordering_then o (nat_cmp s.number t.number)) (number_same s.place t.place h.0) ∙ number_less s.number t.number h.1
+    ap (λ o. ordering_then o (nat_cmp s.number t.number)) (number_same s.place t.place h.0)
+    ∙ number_less s.number t.number h.1
 
 pub less_step : (s t : PathStep) → step_cmp s t ≡ Less → StepBefore s t
 less_step s t e = at (then_less (nat_cmp s.place t.place) (nat_cmp s.number t.number) e)
   where
-    at : (nat_cmp s.place t.place ≡ Less) ⊎ ((nat_cmp s.place t.place ≡ Equal) × (nat_cmp s.number t.number ≡ Less)) → StepBefore s t
+    at : (nat_cmp s.place t.place ≡ Less) ⊎ ((nat_cmp s.place t.place ≡ Equal) × (nat_cmp s.number t.number ≡ Less))
+        → StepBefore s t
     at (inl h) = inl (less_number s.place t.place h)
     at (inr h) = inr (same_number s.place t.place h.0, less_number s.number t.number h.1)
 
@@ -67,7 +70,8 @@ steps_less [] (t ∷ ts) h = refl
 steps_less (s ∷ ss) [] h = absurd h
 steps_less (s ∷ ss) (t ∷ ts) (inl h) = ap (λ o. ordering_then o (slice_cmp step_cmp ss ts)) (step_less s t h)
 steps_less (s ∷ ss) (t ∷ ts) (inr h) =
-    ap (λ o. ordering_then o (slice_cmp step_cmp ss ts)) (ap (step_cmp s) (sym h.0) ∙ tied_itself step_total s) ∙ steps_less ss ts h.1
+    ap (λ o. ordering_then o (slice_cmp step_cmp ss ts)) (ap (step_cmp s) (sym h.0) ∙ tied_itself step_total s)
+    ∙ steps_less ss ts h.1
 
 pub less_steps : (ss ts : List PathStep) → slice_cmp step_cmp ss ts ≡ Less → StepsBefore ss ts
 less_steps [] [] e = cc
@@ -75,7 +79,8 @@ less_steps [] (t ∷ ts) e = tt
 less_steps (s ∷ ss) [] e = cc
 less_steps (s ∷ ss) (t ∷ ts) e = at (less_steps ss ts) (then_less (step_cmp s t) (slice_cmp step_cmp ss ts) e)
   where
-    at : (slice_cmp step_cmp ss ts ≡ Less → StepsBefore ss ts) → (step_cmp s t ≡ Less) ⊎ ((step_cmp s t ≡ Equal) × (slice_cmp step_cmp ss ts ≡ Less))
+    at : (slice_cmp step_cmp ss ts ≡ Less → StepsBefore ss ts)
+        → (step_cmp s t ≡ Less) ⊎ ((step_cmp s t ≡ Equal) × (slice_cmp step_cmp ss ts ≡ Less))
         → StepsBefore (s ∷ ss) (t ∷ ts)
     at rest (inl h) = inl (less_step s t h)
     at rest (inr h) = inr (same_step s t h.0, rest h.1)

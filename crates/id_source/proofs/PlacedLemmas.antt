@@ -23,12 +23,17 @@ use Rattle.id_value.specs.declared.Constant.TheVariants as constant
 use Rattle.id_source.specs.declared.SourceFault.{SourceFault}
 use Rattle.id_source.specs.declared.SourceFault.TheVariants.{Operator, SecondStore}
 use Rattle.id_source.specs.Sources.{Source, value_of}
-use Rattle.id_source.specs.Facts.{GoesOn, by_predicate, by_bounds, by_index, lower_on, upper_on, index_begins, index_counts}
-use Rattle.id_source.specs.Facts.{loop_test_on, first_has, turn_on, loop_statement_on, next_on, next_has, last_on, loop_has, below, outermost, Rule, main_on}
-use Rattle.id_source.specs.Facts.{literal_has, operand_on, left_on, right_on, unary_has, binary_has, name_has, test_on, arm_on, conditional_has, argument_on}
-use Rattle.id_source.specs.Facts.{callee_on, argument_has, call_has, statement_on, body_on, block_has, binding_has, param_has, FaultRule, unary_fails}
+use Rattle.id_source.specs.Facts.{GoesOn, by_predicate, by_bounds, by_index, lower_on, upper_on, index_begins}
+use Rattle.id_source.specs.Facts.{index_counts}
+use Rattle.id_source.specs.Facts.{loop_test_on, first_has, turn_on, loop_statement_on, next_on, next_has, last_on}
+use Rattle.id_source.specs.Facts.{loop_has, below, outermost, Rule, main_on}
+use Rattle.id_source.specs.Facts.{literal_has, operand_on, left_on, right_on, unary_has, binary_has, name_has, test_on}
+use Rattle.id_source.specs.Facts.{arm_on, conditional_has, argument_on}
+use Rattle.id_source.specs.Facts.{callee_on, argument_has, call_has, statement_on, body_on, block_has, binding_has}
+use Rattle.id_source.specs.Facts.{param_has, FaultRule, unary_fails}
 use Rattle.id_source.specs.Facts.{binary_fails, bad_bounds, out_of_fetch, out_of_store, second_store}
-use Rattle.id_source.specs.Facts.{loop_store_on, store_on, bounds_low_on, bounds_high_on, shape_made, array_has, fetch_target_on, fetch_index_on, asks}
+use Rattle.id_source.specs.Facts.{loop_store_on, store_on, bounds_low_on, bounds_high_on, shape_made, array_has}
+use Rattle.id_source.specs.Facts.{fetch_target_on, fetch_index_on, asks}
 use Rattle.id_source.specs.Facts.{fetch_has, store_target_on, store_index_on, store_value_on, puts}
 use Rattle.id_source.specs.Rounds.{Rounds, Every, Holds, Faulty}
 use Rattle.id_source.specs.Things.{IsThing}
@@ -75,36 +80,47 @@ InTree P s = HasPlace (tree P) s.place
 no_steps : (S : Source) → All (λ s. HasPlace (tree S.checked) s.place) outermost.steps
 no_steps S = All-nil (InTree S.checked)
 
-below_steps : (S : Source) (p : Path) (e k : ℕ) → IsPoint S.checked p e → All (λ s. HasPlace (tree S.checked) s.place) (below p e k).steps
+below_steps : (S : Source) (p : Path) (e k : ℕ) → IsPoint S.checked p e
+    → All (λ s. HasPlace (tree S.checked) s.place) (below p e k).steps
 below_steps S p e k h =
     let s : PathStep = record { place = e; number = k } in
-    All-append (InTree S.checked) p.steps (s ∷ []) h.path (All-cons (InTree S.checked) s [] h.place (All-nil (InTree S.checked)))
+    All-append (InTree S.checked) p.steps (s ∷ []) h.path
+    (All-cons (InTree S.checked) s [] h.place (All-nil (InTree S.checked)))
 
 -- the path with a step is placed where its front is and the step is
-front_placed : (S : Source) (p : Path) (e k f : ℕ) → IsPoint S.checked (below p e k) f → All (λ s. HasPlace (tree S.checked) s.place) p.steps
+front_placed : (S : Source) (p : Path) (e k f : ℕ) → IsPoint S.checked (below p e k) f
+    → All (λ s. HasPlace (tree S.checked) s.place) p.steps
 front_placed S p e k f h = go p.steps h.path
   where
-    go : (ss : List PathStep) → All (λ s. HasPlace (tree S.checked) s.place) (ss ++ record { place = e; number = k } ∷ [])
+    go : (ss : List PathStep)
+        → All (λ s. HasPlace (tree S.checked) s.place) (ss ++ record { place = e; number = k } ∷ [])
         → All (λ s. HasPlace (tree S.checked) s.place) ss
     go [] h = All-nil (InTree S.checked)
     go (s ∷ ss) h =
         let more = ss ++ record { place = e; number = k } ∷ [] in
-        All-cons (InTree S.checked) s ss (All-head (InTree S.checked) s more h) (go ss (All-tail (InTree S.checked) s more h))
+        All-cons (InTree S.checked) s ss (All-head (InTree S.checked) s more h)
+        (go ss (All-tail (InTree S.checked) s more h))
 
 -- and so is that of another iteration
-iteration_placed : (S : Source) (p : Path) (n f a k j : ℕ) → IsThing S n → IsThing S a → IsPoint S.checked (below p (place S.checked n) k) f
+iteration_placed : (S : Source) (p : Path) (n f a k j : ℕ) → IsThing S n → IsThing S a
+    → IsPoint S.checked (below p (place S.checked n) k) f
     → IsPoint S.checked (below p (place S.checked n) j) (place S.checked a)
 iteration_placed S p n f a k j t u h =
     let q = front_placed S p (place S.checked n) k f h in
-    record { path = below_steps S p (place S.checked n) j (record { path = q; place = thing-place S n t }); place = thing-place S a u }
+    record {
+      path = below_steps S p (place S.checked n) j (record { path = q; place = thing-place S n t });
+      place =
+          thing-place S a u;
+    }
 
 -- where placed facts say that a loop goes on or not, its iteration is placed
-goes_placed : (S : Source) (n w : ℕ) (p : Path) (k : ℕ) (c : Truth) {fs : List Fact} → GoesOn S n w p k c fs → Every (Placed S.checked) fs
-    → All (λ s. HasPlace (tree S.checked) s.place) (below p (place S.checked n) k).steps
+goes_placed : (S : Source) (n w : ℕ) (p : Path) (k : ℕ) (c : Truth) {fs : List Fact} → GoesOn S n w p k c fs
+    → Every (Placed S.checked) fs → All (λ s. HasPlace (tree S.checked) s.place) (below p (place S.checked n) k).steps
 goes_placed S n w p k c (by_predicate j s) h = let q = h.0.0 in q.path
 goes_placed S n w p k c (by_bounds s e) h = below_steps S p (place S.checked n) 0 h.0
 goes_placed S n w p k c (by_index {x = x} {l = l} j s e) h =
-    let q = iteration_placed S p n (place S.checked x) x j (suc j) (node-thing S n (Loop s.head w l) s.loop refl) (node-thing S x (Index s.name) s.index refl)
+    let q = iteration_placed S p n (place S.checked x) x j (suc j) (node-thing S n (Loop s.head w l) s.loop refl)
+    (node-thing S x (Index s.name) s.index refl)
     h.0.0 in
     q.path
 
@@ -113,7 +129,11 @@ rule_placed : {S : Source} {fs : List Fact} {f : Fact} → Rule S fs f → Every
 rule_placed {S} main_on h = record { path = no_steps S; place = thing-place S _ (main-thing S) }
 rule_placed {S} (param_has {b = b} {c = c} i) h =
     let q = input_param i in (
-      record { path = no_steps S; place = thing-place S b (record { within = q.0; thing = thing-param (at (rows S.checked) b).node q.1 }) },
+      record {
+        path = no_steps S;
+        place =
+            thing-place S b (record { within = q.0; thing = thing-param (at (rows S.checked) b).node q.1 });
+      },
       constant-placed S.checked c,
     )
 rule_placed {S} (literal_has {c = c} s) h = (h.0, constant-placed S.checked c)
@@ -133,55 +153,108 @@ rule_placed {S} (test_on {t = t} c) h =
 rule_placed {S} (arm_on {n = n} {a = a} {b = b} c) h =
     let p = h.0 in
     let d = choice c in
-    record { path = p.path; place = thing-place S a (part-thing S n a (If d.split d.then d.otherwise) d.stands (arm-among d.then d.otherwise b a d.arm)) }
+    record {
+      path = p.path;
+      place =
+          thing-place S a
+          (part-thing S n a (If d.split d.then d.otherwise) d.stands (arm-among d.then d.otherwise b a d.arm));
+    }
 rule_placed (conditional_has c) h = (h.0, h.1.1.0.1)
 rule_placed {S} (argument_on {e = e} {m = m} {k = k} {v = v} s t) h = let p = h.0 in
     record { path = p.path; place = thing-place S v (part-thing S m v (Arg e k v) t refl) }
 rule_placed {S} (callee_on {n = n} {d = d} {x = x} {h = g} {b = b} {k = k} {p = p} s is def) h =
-    record { path = below_steps S p (place S.checked n) 0 h.0; place = thing-place S b (part-thing S d b (Def x g k b) def refl) }
+    record {
+      path = below_steps S p (place S.checked n) 0 h.0;
+      place =
+          thing-place S b (part-thing S d b (Def x g k b) def refl);
+    }
 rule_placed {S} (argument_has {n = n} {h = g} {i = i} {q = q} {p = p} s t is def there) h =
     let R = rows S.checked in
     let w = params-among R g (length R) q (Among-from_at q (params_at R g) i there) in (
-      record { path = below_steps S p (place S.checked n) 0 h.0; place = thing-place S q (record { within = w.0; thing = thing-param (at R q).node w.1 }) },
+      record {
+        path = below_steps S p (place S.checked n) 0 h.0;
+        place =
+            thing-place S q (record { within = w.0; thing = thing-param (at R q).node w.1 });
+      },
       h.1.0.1,
     )
 rule_placed {S} (call_has s is def) h = (h.0, h.1.0.1)
 rule_placed {S} (loop_test_on {n = n} {h = g} {w = w} {t = t} {l = l} {p = p} s) h =
     record { path = below_steps S p (place S.checked n) 0 h.0; place = thing-place S t (test-thing S n g w t l s) }
-rule_placed {S} (first_has {n = n} {m = m} {o = o} {v = v} {p = p} s x e) h =
-    (record { path = below_steps S p (place S.checked n) 0 h.0; place = thing-place S m (node-thing S m (Next x.name x.index o v) x.next refl) }, h.1.0.1)
+rule_placed {S} (first_has {n = n} {m = m} {o = o} {v = v} {p = p} s x e) h = (
+  record {
+    path = below_steps S p (place S.checked n) 0 h.0;
+    place =
+        thing-place S m (node-thing S m (Next x.name x.index o v) x.next refl);
+  },
+  h.1.0.1,
+)
 rule_placed {S} (turn_on {n = n} {h = g} {w = w} {t = t} {l = l} p k s) h =
-    iteration_placed S p n (place S.checked t) t k (suc k) (node-thing S n (Loop g w l) s.loop refl) (test-thing S n g w t l s) h.0.0
+    iteration_placed S p n (place S.checked t) t k (suc k) (node-thing S n (Loop g w l) s.loop refl)
+    (test-thing S n g w t l s) h.0.0
 rule_placed {S} (lower_on {a = a} {b = b} s) h = let p = h.0 in
-    record { path = p.path; place = thing-place S a (part-thing S (bounds_row s.head) a (Bounds a b) s.bounds (inl refl)) }
+    record {
+      path = p.path;
+      place =
+          thing-place S a (part-thing S (bounds_row s.head) a (Bounds a b) s.bounds (inl refl));
+    }
 rule_placed {S} (upper_on {a = a} {b = b} s) h = let p = h.0 in
-    record { path = p.path; place = thing-place S b (part-thing S (bounds_row s.head) b (Bounds a b) s.bounds (inr refl)) }
-rule_placed {S} (index_begins {n = n} {x = x} {p = p} s e) h =
-    (record { path = below_steps S p (place S.checked n) 0 h.0; place = thing-place S x (node-thing S x (Index s.name) s.index refl) }, tt)
+    record {
+      path = p.path;
+      place =
+          thing-place S b (part-thing S (bounds_row s.head) b (Bounds a b) s.bounds (inr refl));
+    }
+rule_placed {S} (index_begins {n = n} {x = x} {p = p} s e) h = (
+  record {
+    path = below_steps S p (place S.checked n) 0 h.0;
+    place =
+        thing-place S x (node-thing S x (Index s.name) s.index refl);
+  },
+  tt,
+)
 rule_placed {S} (index_counts {n = n} {w = w} {x = x} {l = l} p k s e) h = (
-  iteration_placed S p n (place S.checked x) x k (suc k) (node-thing S n (Loop s.head w l) s.loop refl) (node-thing S x (Index s.name) s.index refl) h.0.0,
+  iteration_placed S p n (place S.checked x) x k (suc k) (node-thing S n (Loop s.head w l) s.loop refl)
+      (node-thing S x (Index s.name) s.index refl) h.0.0,
   tt,
 )
 rule_placed {S} (loop_store_on {n = n} {w = w} {m = m} p k s o b) h =
-    record { path = goes_placed S n w p k true o h; place = thing-place S m (node-thing S m (Store b.address b.value) b.store refl) }
+    record {
+      path = goes_placed S n w p k true o h;
+      place =
+          thing-place S m (node-thing S m (Store b.address b.value) b.store refl);
+    }
 rule_placed {S} (loop_statement_on {n = n} {w = w} {m = m} {a = a} p k s o b) h =
-    record { path = goes_placed S n w p k true o h; place = thing-place S a (part-thing S m a (Binding b.name a) b.binding refl) }
+    record {
+      path = goes_placed S n w p k true o h;
+      place =
+          thing-place S a (part-thing S m a (Binding b.name a) b.binding refl);
+    }
 rule_placed {S} (next_on {n = n} {w = w} {m = m} {o = u} {v = v} p k s o x) h =
-    record { path = goes_placed S n w p k true o h; place = thing-place S v (part-thing S m v (Next x.name x.index u v) x.next refl) }
+    record {
+      path = goes_placed S n w p k true o h;
+      place =
+          thing-place S v (part-thing S m v (Next x.name x.index u v) x.next refl);
+    }
 rule_placed {S} (next_has {n = n} {h = g} {w = w} {l = l} {m = m} {o = o} {v = v} p k s x) h = (
-  iteration_placed S p n (place S.checked v) m k (suc k) (node-thing S n (Loop g w l) s refl) (node-thing S m (Next x.name x.index o v) x.next refl)
+  iteration_placed S p n (place S.checked v) m k (suc k) (node-thing S n (Loop g w l) s refl)
+      (node-thing S m (Next x.name x.index o v) x.next refl)
       h.0.0,
   h.0.1,
 )
 rule_placed {S} (last_on {n = n} {h = g} {w = w} {l = l} p k s o) h =
     record { path = goes_placed S n w p k false o h; place = thing-place S l (part-thing S n l (Loop g w l) s refl) }
 rule_placed {S} (loop_has {n = n} {h = g} {w = w} {l = l} p k s) h = (
-  record { path = front_placed S p (place S.checked n) k (place S.checked l) h.0.0; place = thing-place S n (node-thing S n (Loop g w l) s refl) },
+  record {
+    path = front_placed S p (place S.checked n) k (place S.checked l) h.0.0;
+    place =
+        thing-place S n (node-thing S n (Loop g w l) s refl);
+  },
   h.0.1,
 )
 rule_placed {S} (statement_on {m = m} {x = x} {a = a} s i t) h = let p = h.0 in
     record { path = p.path; place = thing-place S a (part-thing S m a (Binding x a) t refl) }
-rule_placed {S} (body_on {n = n} {b = b} s) h = let p = h.0 in record { path = p.path; place = thing-place S b (part-thing S n b (Block b) s refl) }
+rule_placed {S} (body_on {n = n} {b = b} s) h =
+    let p = h.0 in record { path = p.path; place = thing-place S b (part-thing S n b (Block b) s refl) }
 rule_placed (block_has s) h = (h.0, h.1.0.1)
 rule_placed {S} (binding_has {n = n} {x = x} {a = a} s) h =
     let p = h.0.0 in (record { path = p.path; place = thing-place S n (node-thing S n (Binding x a) s refl) }, h.0.1)
@@ -200,9 +273,11 @@ rule_placed {S} (fetch_index_on {n = n} {t = t} {i = i} s) h =
 rule_placed (asks s e) h = (h.0, h.1.0.1)
 rule_placed fetch_has h = (h.0.0, h.1.0.1)
 rule_placed {S} (store_target_on {t = t} {i = i} s) h =
-    let p = h.0 in record { path = p.path; place = thing-place S t (part-thing S s.address t (Address t i) s.parts (inl refl)) }
+    let p = h.0 in
+    record { path = p.path; place = thing-place S t (part-thing S s.address t (Address t i) s.parts (inl refl)) }
 rule_placed {S} (store_index_on {t = t} {i = i} s) h =
-    let p = h.0 in record { path = p.path; place = thing-place S i (part-thing S s.address i (Address t i) s.parts (inr refl)) }
+    let p = h.0 in
+    record { path = p.path; place = thing-place S i (part-thing S s.address i (Address t i) s.parts (inr refl)) }
 rule_placed {S} (store_value_on {m = m} {x = x} s) h =
     let p = h.0 in record { path = p.path; place = thing-place S x (part-thing S m x (Store s.address x) s.store refl) }
 rule_placed (puts s e) h = (h.1.0.1, h.1.1.1.0.1, h.0)
@@ -215,7 +290,8 @@ every_map F G (f ∷ fs) t h = (t f h.0, every_map F G fs t h.1)
 pub round_placed : (S : Source) (n : ℕ) (f : Fact) → Rounds S n f → Placed S.checked f
 round_placed S zero f h = absurd h
 round_placed S (suc n) f (inl h) = round_placed S n f h
-round_placed S (suc n) f (inr h) = rule_placed h.1 (every_map (Rounds S n) (Placed S.checked) h.0 (round_placed S n) h.2)
+round_placed S (suc n) f (inr h) =
+    rule_placed h.1 (every_map (Rounds S n) (Placed S.checked) h.0 (round_placed S n) h.2)
 
 -- a fact of the source is placed
 pub holds_placed : (S : Source) (f : Fact) → Holds S f → Placed S.checked f

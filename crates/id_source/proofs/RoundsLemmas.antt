@@ -17,6 +17,7 @@ again S (suc n) f (inl h) = let r = again S n f h in (r.0, r.1, Every-more S n r
 again S (suc n) f (inr (fs, rule, hold)) = (fs, rule, Every-more S n fs hold)
 
 -- each fact of a round follows from facts of the round before
-pub Rounds-follow : (S : Source) (n : ℕ) (f : Fact) → Rounds S (suc n) f → (fs : List Fact) × Rule S fs f × Every (Rounds S n) fs
+pub Rounds-follow : (S : Source) (n : ℕ) (f : Fact) → Rounds S (suc n) f
+    → (fs : List Fact) × Rule S fs f × Every (Rounds S n) fs
 Rounds-follow S n f (inl h) = again S n f h
 Rounds-follow S n f (inr h) = h

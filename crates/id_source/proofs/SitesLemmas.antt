@@ -23,12 +23,18 @@ pub site-order : (a b : Site) → SiteBefore a b ⊎ ((a ≡ b) ⊎ SiteBefore b
 site-order a b = by (slice_cmp step_cmp a.path.steps b.path.steps) refl
   where
     back : slice_cmp step_cmp a.path.steps b.path.steps ≡ Greater → SiteBefore b a
-    back e = inl (less_steps b.path.steps a.path.steps ((lists_total step_total).antisymm b.path.steps a.path.steps ∙ ap ordering_reverse e))
+    back e = inl
+        (less_steps b.path.steps a.path.steps ((lists_total step_total).antisymm b.path.steps a.path.steps
+        ∙ ap ordering_reverse e))
 
     along : a.path ≡ b.path → (o : Ordering) → nat_cmp a.place b.place ≡ o → SiteBefore a b ⊎ ((a ≡ b) ⊎ SiteBefore b a)
     along p Less e = inl (inr (p, less_number a.place b.place e))
     along p Equal e = inr (inl (same_site a b p (same_number a.place b.place e)))
-    along p Greater e = inr (inr (inr (sym p, less_number b.place a.place (nat_cmp_total.antisymm b.place a.place ∙ ap ordering_reverse e))))
+    along p Greater e =
+        inr (inr (inr (
+          sym p,
+          less_number b.place a.place (nat_cmp_total.antisymm b.place a.place ∙ ap ordering_reverse e),
+        )))
 
     by : (o : Ordering) → slice_cmp step_cmp a.path.steps b.path.steps ≡ o → SiteBefore a b ⊎ ((a ≡ b) ⊎ SiteBefore b a)
     by Less e = inl (inl (less_steps a.path.steps b.path.steps e))

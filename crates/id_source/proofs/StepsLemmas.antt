@@ -1,5 +1,6 @@
 -- Paths of the source: without their last steps, and with one more.
-use Rattle.std.proofs.Common.{◌≡◌, ℕ, zero, suc, ◌-◌, ◌≤◌, List, [], ◌∷◌, ◌++◌, length, take, reverse, refl, ap, sym, ◌∙◌, arith}
+use Rattle.std.proofs.Common.{◌≡◌, ℕ, zero, suc, ◌-◌, ◌≤◌, List, [], ◌∷◌, ◌++◌, length, take, reverse, refl, ap, sym}
+use Rattle.std.proofs.Common.{◌∙◌, arith}
 use Rattle.std.proofs.lemmas.List.{length-append, reverse-append}
 use Rattle.id_source.specs.declared.Path.{Path}
 use Rattle.id_source.specs.declared.PathStep.{PathStep}
@@ -31,10 +32,12 @@ take-front (y ∷ xs) x zero (suc m) e l = absurd (omega arith)
 take-front (y ∷ xs) x (suc n) zero e l = absurd (omega arith)
 take-front (y ∷ xs) x (suc n) (suc m) e l = ap (λ ys. y ∷ ys) (take-front xs x n m (omega arith) (omega arith))
 
-pub without-more : (d : ℕ) (ss ts : List PathStep) (x : PathStep) → ts ≡ ss ++ x ∷ [] → take (length ts - suc d) ts ≡ take (length ss - d) ss
+pub without-more : (d : ℕ) (ss ts : List PathStep) (x : PathStep) → ts ≡ ss ++ x ∷ []
+    → take (length ts - suc d) ts ≡ take (length ss - d) ss
 without-more d ss ts x e =
     let l : length ts ≡ suc (length ss) = ap length e ∙ (let q = length-append ss (x ∷ []) in omega (arith, q)) in
-    ap (λ us. take (length ts - suc d) us) e ∙ take-front ss x (length ts - suc d) (length ss - d) (omega (arith, l)) (omega arith)
+    ap (λ us. take (length ts - suc d) us) e
+    ∙ take-front ss x (length ts - suc d) (length ss - d) (omega (arith, l)) (omega arith)
 
 pub last-same : (xs ys : List PathStep) (x y : PathStep) → xs ++ x ∷ [] ≡ ys ++ y ∷ [] → (xs ≡ ys) × (x ≡ y)
 last-same [] [] x y e = (refl, let q : x ≡ y = cc in q)
@@ -59,7 +62,8 @@ none-below p e k h = none-last p.steps (record { place = e; number = k }) (ap (�
 pub below-once : (p q : Path) (e f k j : ℕ) → below p e k ≡ below q f j → (p ≡ q) × (e ≡ f) × (k ≡ j)
 unfolding path_from
 below-once p q e f k j h =
-    let z = last-same p.steps q.steps (record { place = e; number = k }) (record { place = f; number = j }) (ap (λ r. r.steps) h) in
+    let z = last-same p.steps q.steps (record { place = e; number = k }) (record { place = f; number = j })
+    (ap (λ r. r.steps) h) in
     (ap path_from z.0, ap (λ s. s.place) z.1, ap (λ s. s.number) z.1)
 
 pub reverse-last : (ss : List PathStep) (x : PathStep) → reverse (ss ++ x ∷ []) ≡ x ∷ reverse ss

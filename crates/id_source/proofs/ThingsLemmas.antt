@@ -27,15 +27,20 @@ test-thing S n h w t l s =
 
 -- what stands at a node that is a thing is one
 pub node-thing : (S : Source) (n : ℕ) (z : Node) → Stands S.checked n z → is_thing z ≡ true → IsThing S n
-node-thing S n z s t = let P : Node → Type 0 = λ y. is_thing y ≡ true in record { within = s.within; thing = subst P (sym s.node) t }
+node-thing S n z s t =
+    let P : Node → Type 0 = λ y. is_thing y ≡ true in record { within = s.within; thing = subst P (sym s.node) t }
 
 -- main's body is a thing
-main-by : (S : Source) (z : Node) → (at (rows S.checked) S.checked.main).node ≡ z → defines_main z ≡ true → IsThing S (main_body S.checked)
+main-by : (S : Source) (z : Node) → (at (rows S.checked) S.checked.main).node ≡ z → defines_main z ≡ true
+    → IsThing S (main_body S.checked)
 main-by S (Def x h k b) e d =
     let q : main_body S.checked ≡ b = ap body_of e in
     let T : ℕ → Type 0 = λ n. IsThing S n in
-    subst T (sym q) (part-thing S S.checked.main b (Def x h k b) (record { within = S.checked.is_main.within; node = e }) refl)
+    subst T (sym q)
+    (part-thing S S.checked.main b (Def x h k b) (record { within = S.checked.is_main.within; node = e }) refl)
 main-by S _ e d = absurd (false≢true d)
 
 pub main-thing : (S : Source) → IsThing S (main_body S.checked)
-main-thing S = let P : Node → Type 0 = λ z. defines_main z ≡ true in main-by S (at (rows S.checked) S.checked.main).node refl S.checked.is_main.node
+main-thing S =
+    let P : Node → Type 0 =
+    λ z. defines_main z ≡ true in main-by S (at (rows S.checked) S.checked.main).node refl S.checked.is_main.node

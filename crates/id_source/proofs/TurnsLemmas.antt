@@ -19,7 +19,8 @@ module _ {A B : Type 0} (F : List A → List B) where
   pub gathered-all : F [] ≡ [] → (xs : List A) (i : ℕ) (now whole : List B) → length xs ≤ i
       → now ++ F (drop i xs) ≡ whole → now ≡ whole
   gathered-all none xs i now whole end so_far =
-      sym (append-nil now) ∙ ap (λ ys. now ++ ys) (sym none) ∙ ap (λ ys. now ++ F ys) (sym (drop_of_length-le xs end)) ∙ so_far
+      sym (append-nil now) ∙ ap (λ ys. now ++ ys) (sym none) ∙ ap (λ ys. now ++ F ys) (sym (drop_of_length-le xs end))
+      ∙ so_far
 
 -- where there are none yet
 pub gathered-none : {B : Type 0} → (now rest : List B) → now ≡ [] → now ++ rest ≡ rest

@@ -1,5 +1,6 @@
 -- Facts that are looked up by things.
-use Rattle.std.proofs.Common.{◌≡◌, ◌⊎◌, ◌<◌, ◌≤◌, ◌+◌, ◌*◌, inl, inr, ℕ, suc, Option, None, Some, List, [], ◌∷◌, ◌++◌, length, refl, ap, sym, ◌∙◌, subst, arith}
+use Rattle.std.proofs.Common.{◌≡◌, ◌⊎◌, ◌<◌, ◌≤◌, ◌+◌, ◌*◌, inl, inr, ℕ, suc, Option, None, Some, List, [], ◌∷◌, ◌++◌}
+use Rattle.std.proofs.Common.{length, refl, ap, sym, ◌∙◌, subst, arith}
 use Rattle.std.specs.Prelude.{◌%◌}
 use Rattle.std.proofs.Math.Nat.{eq-or-lt_of_le, mod-lt}
 use Rattle.id_value.specs.List.{Among}
@@ -77,8 +78,8 @@ index-none P k n c p t e s = record {
 lt-or : (i n m : ℕ) → i < m → m ≡ suc n → (i < n) ⊎ (i ≡ n)
 lt-or i n m l e = elim (eq-or-lt_of_le {n = i} {m = n} (omega arith)) [ inl q ↦ inr q | inr k ↦ inl k ]
 
-pub index-more : (P : Checked) (b k : Known) (i m : ℕ) (f : RowFact) → m ≡ suc i → i < length (known_facts b) → f ≡ fact_at (known_facts b) i
-    → AreIndexedTo P i b → Indexes P b k i f → AreIndexedTo P m k
+pub index-more : (P : Checked) (b k : Known) (i m : ℕ) (f : RowFact) → m ≡ suc i → i < length (known_facts b)
+    → f ≡ fact_at (known_facts b) i → AreIndexedTo P i b → Indexes P b k i f → AreIndexedTo P m k
 index-more P b k i m f next within is a h =
     let same : known_facts k ≡ known_facts b = ap items h.cells in
     let long : length (known_facts k) ≡ length (known_facts b) = ap length same in
@@ -93,7 +94,9 @@ index-more P b k i m f next within is a h =
         | inl r ↦ (let G : RowFact → Type 0 = λ g. Leads k.points (chain_at (path_of g) (row_of g)) j in
             subst G (sym (at j)) (h.points.kept _ j (a.points j r)))
         | inr q ↦ (let G : RowFact → Type 0 = λ g. Leads k.points (chain_at (path_of g) (row_of g)) i in
-            let H : ℕ → Type 0 = λ x. Leads k.points (chain_at (path_of (fact_at (known_facts k) x)) (row_of (fact_at (known_facts k) x))) x in
+            let H : ℕ → Type 0 =
+            λ x. Leads k.points (chain_at (path_of (fact_at (known_facts k) x)) (row_of (fact_at (known_facts k) x)))
+            x in
             let low = chain-low (path_of f) (row_of f) in
             let wide = a.points_wide in
             subst H (sym q) (subst G (sym one) (h.points.added i (omega arith) (inl refl))))
@@ -103,10 +106,12 @@ index-more P b k i m f next within is a h =
         | inr r ↦ elim r.1 [ inl q ↦ omega arith | inr z ↦ absurd z ]
       ];
       turns = λ j s l low e. elim (lt-or j i m l next) [
-        | inl r ↦ from-kept b.turns k.turns (spot_by f) (i ∷ []) h.turns s j (a.turns j s r (omega arith) (ap spot_by (sym (at j)) ∙ e))
+        | inl r ↦ from-kept b.turns k.turns (spot_by f) (i ∷ []) h.turns s j
+            (a.turns j s r (omega arith) (ap spot_by (sym (at j)) ∙ e))
         | inr q ↦ (let H : ℕ → Type 0 = λ x. Leads k.turns s x in
             let wide = a.turns_wide in
-            let own : spot_by f ≡ Some s = ap spot_by (sym one) ∙ ap (λ x. spot_by (fact_at (known_facts k) x)) (sym q) ∙ e in
+            let own : spot_by f ≡ Some s =
+            ap spot_by (sym one) ∙ ap (λ x. spot_by (fact_at (known_facts k) x)) (sym q) ∙ e in
             subst H (sym q) (from-added b.turns k.turns (spot_by f) i s h.turns own (omega arith)))
       ];
       turns_within = λ s j l. elim (from-only b.turns k.turns (spot_by f) i s j h.turns l) [

@@ -1,5 +1,6 @@
 -- What is looked up of things is what their facts tell.
-use Rattle.std.proofs.Common.{◌≡◌, ◌⊎◌, ◌<◌, ◌&&◌, inl, inr, ℕ, ℤ, Bool as Truth, true, false, Option, None, Some, nat_eq}
+use Rattle.std.proofs.Common.{◌≡◌, ◌⊎◌, ◌<◌, ◌&&◌, inl, inr, ℕ, ℤ, Bool as Truth, true, false, Option, None, Some}
+use Rattle.std.proofs.Common.{nat_eq}
 use Rattle.std.proofs.Common.{List, [], ◌∷◌, length, if◌then◌else◌, refl, ap, sym, ◌∙◌, subst}
 use Rattle.std.proofs.lemmas.Bool.{eqb-true, false≢true}
 use Rattle.id_value.specs.List.{Among}
@@ -28,23 +29,28 @@ gives-given : (fs : List RowFact) (t : Point) (f : RowFact) → gives t f ≡ tr
 gives-given fs t (Has p n v) e m =
     let b = both (same_trail p t.path) (nat_eq n t.row) e in
     let F : RowFact → Type 0 = λ g. Among g fs in
-    by_value v (subst F (ap (λ r. Has r n v) (trail-true p t.path b.0) ∙ ap (λ r. Has t.path r v) (eqb-true n t.row b.1)) m)
+    by_value v
+    (subst F (ap (λ r. Has r n v) (trail-true p t.path b.0) ∙ ap (λ r. Has t.path r v) (eqb-true n t.row b.1)) m)
 gives-given fs t (Put p n s j v) e m =
     let b = both (same_trail p t.path) (nat_eq n t.row) e in
     let F : RowFact → Type 0 = λ g. Among g fs in
-    by_store s j v (subst F (ap (λ r. Put r n s j v) (trail-true p t.path b.0) ∙ ap (λ r. Put t.path r s j v) (eqb-true n t.row b.1)) m)
+    by_store s j v
+    (subst F (ap (λ r. Put r n s j v) (trail-true p t.path b.0) ∙ ap (λ r. Put t.path r s j v) (eqb-true n t.row b.1))
+    m)
 gives-given fs t (On p n) e m = cc
 gives-given fs t (Shape s lo hi) e m = cc
 gives-given fs t (Ask p n s j) e m = cc
 
-any-true : (fs : List RowFact) (t : Point) (is : List ℕ) → any_gives fs t is ≡ true → ((i : ℕ) → Among i is → i < length fs) → IsGiven fs t
+any-true : (fs : List RowFact) (t : Point) (is : List ℕ) → any_gives fs t is ≡ true
+    → ((i : ℕ) → Among i is → i < length fs) → IsGiven fs t
 any-true fs t [] e w = cc
 any-true fs t (i ∷ is) e w = elim (or-true (gives t (fact_at fs i)) (any_gives fs t is) e) [
   | inl a ↦ gives-given fs t (fact_at fs i) a (among-at fs i (w i (inl refl)))
   | inr b ↦ any-true fs t is b (λ j m. w j (inr m))
 ]
 
-any-all : (fs : List RowFact) (t : Point) (is : List ℕ) (i : ℕ) → Among i is → gives t (fact_at fs i) ≡ true → any_gives fs t is ≡ true
+any-all : (fs : List RowFact) (t : Point) (is : List ℕ) (i : ℕ) → Among i is → gives t (fact_at fs i) ≡ true
+    → any_gives fs t is ≡ true
 any-all fs t [] i m e = absurd m
 any-all fs t (j ∷ is) i (inl q) e =
     or-left (gives t (fact_at fs j)) (any_gives fs t is) (ap (λ r. gives t (fact_at fs r)) (sym q) ∙ e)
@@ -97,7 +103,8 @@ module _ (P : Checked) (k : Known) (h : AreIndexed P k) where
   pub values-true : (p : Trail) (n : ℕ) (v : RowValue) → Among v (values k p n) → Among (Has p n v) (known_facts k)
   values-true p n v m =
       let r = told-among (value_by p n) (known_facts k) (chain k.cells (chain_at p n)) v m in
-      fact-there k.cells h.chained (chain_at p n) r.0 (Has p n v) r.1 (value-true p n v (fact_at (known_facts k) r.0) r.2)
+      fact-there k.cells h.chained (chain_at p n) r.0 (Has p n v) r.1
+      (value-true p n v (fact_at (known_facts k) r.0) r.2)
 
   pub values-all : (p : Trail) (n : ℕ) (v : RowValue) → Among (Has p n v) (known_facts k) → Among v (values k p n)
   values-all p n v m = cell-values-all k.cells h.chained (On Outermost 0) p n v refl m
@@ -105,7 +112,8 @@ module _ (P : Checked) (k : Known) (h : AreIndexed P k) where
   pub asks-true : (t : Point) (c : Cell) → Among c (asks k t) → Among (Ask t.path t.row c.name c.index) (known_facts k)
   asks-true t c m =
       let r = told-among (ask_by t) (known_facts k) (numbers_of k t) c m in
-      there (chain_at t.path t.row) r.0 (Ask t.path t.row c.name c.index) r.1 (ask-true t c (fact_at (known_facts k) r.0) r.2)
+      there (chain_at t.path t.row) r.0 (Ask t.path t.row c.name c.index) r.1
+      (ask-true t c (fact_at (known_facts k) r.0) r.2)
 
   pub asks-all : (t : Point) (c : Cell) → Among (Ask t.path t.row c.name c.index) (known_facts k) → Among c (asks k t)
   asks-all t c m =

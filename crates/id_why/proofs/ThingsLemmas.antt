@@ -1,5 +1,6 @@
 -- Things, each once.
-use Rattle.std.proofs.Common.{◌≡◌, ◌⊎◌, ◌<◌, ◌≤◌, ◌&&◌, ◌||◌, inl, inr, ℕ, zero, suc, Bool as Truth, true, false, nat_eq, nat_lt}
+use Rattle.std.proofs.Common.{◌≡◌, ◌⊎◌, ◌<◌, ◌≤◌, ◌&&◌, ◌||◌, inl, inr, ℕ, zero, suc, Bool as Truth, true, false}
+use Rattle.std.proofs.Common.{nat_eq, nat_lt}
 use Rattle.std.proofs.Common.{List, [], ◌∷◌, ◌++◌, length, drop, if◌then◌else◌, refl, ap, sym, ◌∙◌, subst, arith}
 use Rattle.std.proofs.lemmas.Bool.{eqb-true, false≢true, lt-ltb}
 use Rattle.std.specs.Prelude.{get_or, ◌%◌, ◌+◌}
@@ -39,7 +40,8 @@ thing-among t (u ∷ us) h = elim (or-true (same_point u t) (is_thing t us) h) [
 
 pub among-thing : (t : Point) (us : List Point) → Among t us → is_thing t us ≡ true
 among-thing t [] h = absurd h
-among-thing t (u ∷ us) (inl q) = or-left (same_point u t) (is_thing t us) (ap (λ y. same_point y t) (sym q) ∙ point-same t)
+among-thing t (u ∷ us) (inl q) =
+    or-left (same_point u t) (is_thing t us) (ap (λ y. same_point y t) (sym q) ∙ point-same t)
 among-thing t (u ∷ us) (inr h) = or-right (same_point u t) (is_thing t us) (among-thing t us h)
 
 -- ---- one more, and more
@@ -108,11 +110,13 @@ grows-all us (t ∷ ts) =
 pub held-none : (ts : List Point) (E : Edges) → ts ≡ [] → AreNone E 262144 → AreHeld ts E
 held-none ts E e n = record {
   wide = n.wide;
-  there = λ i l. (let P : List Point → Type 0 = λ xs. i < length xs in let q : i < 0 = subst P e l in absurd (omega arith));
+  there = λ i l. (let P : List Point → Type 0 = λ xs. i < length xs in let q : i < 0 = subst P e l in
+      absurd (omega arith));
 }
 
 -- edges that are kept still find the things
-pub held-kept : (ts us : List Point) (E F : Edges) → us ≡ ts → width F ≡ width E → ((a b : ℕ) → Leads E a b → Leads F a b) → AreHeld ts E → AreHeld us F
+pub held-kept : (ts us : List Point) (E F : Edges) → us ≡ ts → width F ≡ width E
+    → ((a b : ℕ) → Leads E a b → Leads F a b) → AreHeld ts E → AreHeld us F
 held-kept ts us E F e w kept h =
     let G : List Point → Type 0 = λ xs. AreHeld xs F in
     subst G (sym e) (record { wide = w ∙ h.wide; there = λ i l. kept _ i (h.there i l) })
@@ -120,8 +124,8 @@ held-kept ts us E F e w kept h =
 chain-low : (t : Point) → chain_at t.path t.row < 262144
 chain-low t = mod-lt (t.row % 262144 + mark_of t.path) (omega arith)
 
-pub held-more : (ts us : List Point) (E F : Edges) (t : Point) (n c : ℕ) → us ≡ ts ++ t ∷ [] → n ≡ length ts → c ≡ chain_at t.path t.row
-    → Gains E F c (n ∷ []) → AreHeld ts E → AreHeld us F
+pub held-more : (ts us : List Point) (E F : Edges) (t : Point) (n c : ℕ) → us ≡ ts ++ t ∷ [] → n ≡ length ts
+    → c ≡ chain_at t.path t.row → Gains E F c (n ∷ []) → AreHeld ts E → AreHeld us F
 held-more ts us E F t n c e q r g h =
     let d = point Outermost 0 in
     let G : List Point → Type 0 = λ xs. AreHeld xs F in
@@ -133,12 +137,15 @@ held-more ts us E F t n c e q r g h =
           elim (eq-or-lt_of_le le) [
             | inl s ↦
                 (let H : Point → Type 0 = λ y. Leads F (chain_at y.path y.row) (length ts) in
-                let I : ℕ → Type 0 = λ j. Leads F (chain_at (thing_at (ts ++ t ∷ []) j).path (thing_at (ts ++ t ∷ []) j).row) j in
+                let I : ℕ → Type 0 =
+                λ j. Leads F (chain_at (thing_at (ts ++ t ∷ []) j).path (thing_at (ts ++ t ∷ []) j).row) j in
                 let low = chain-low t in
                 let wide = h.wide in
                 let J : ℕ → Type 0 = λ j. Leads F c j in
                 let K : ℕ → Type 0 = λ j. Leads F j (length ts) in
-                subst I (sym s) (subst H (sym (get_or-append_seam ts t [] d)) (subst K r (subst J q (g.added n (omega arith) (inl refl))))))
+                subst I (sym s)
+                (subst H (sym (get_or-append_seam ts t [] d))
+                (subst K r (subst J q (g.added n (omega arith) (inl refl))))))
             | inr s ↦
                 (let H : Point → Type 0 = λ y. Leads F (chain_at y.path y.row) i in
                 subst H (sym (get_or-append ts (t ∷ []) d i s)) (g.kept _ i (h.there i s)))
@@ -150,7 +157,8 @@ abbrev pub is_held : List Point → Point → List ℕ → Truth
 is_held ts t [] = false
 is_held ts t (i ∷ is) = (nat_lt i (length ts) && same_point (thing_at ts i) t) || is_held ts t is
 
-held-at : (ts : List Point) (t : Point) (is : List ℕ) (i : ℕ) → Among i is → i < length ts → same_point (thing_at ts i) t ≡ true → is_held ts t is ≡ true
+held-at : (ts : List Point) (t : Point) (is : List ℕ) (i : ℕ) → Among i is → i < length ts
+    → same_point (thing_at ts i) t ≡ true → is_held ts t is ≡ true
 held-at ts t [] i m l e = absurd m
 held-at ts t (j ∷ is) i (inl q) l e =
     let P : ℕ → Type 0 = λ k. nat_lt k (length ts) && same_point (thing_at ts k) t ≡ true in
@@ -165,7 +173,8 @@ thing-index t (u ∷ ts) (inl q) = (0, omega arith, sym q)
 thing-index t (u ∷ ts) (inr m) = let r = thing-index t ts m in (suc r.0, (let l = r.1 in omega arith), r.2)
 
 -- where the thing is not found in its chain, it is not there
-pub held-out : (ts : List Point) (E : Edges) (t : Point) → AreHeld ts E → is_held ts t (targets E.rows.items (chain_at t.path t.row)) ≡ false
+pub held-out : (ts : List Point) (E : Edges) (t : Point) → AreHeld ts E
+    → is_held ts t (targets E.rows.items (chain_at t.path t.row)) ≡ false
     → is_thing t ts ≡ false
 held-out ts E t h e = go (is_thing t ts) refl
   where
@@ -179,7 +188,8 @@ held-out ts E t h e = go (is_thing t ts) refl
         let bad : false ≡ true = sym e ∙ yes in cc
 
 -- a thing is there where that of some number is the same
-pub held-found : (ts : List Point) (t u : Point) (n : ℕ) → n < length ts → u ≡ get_or ts n u → same_point u t ≡ true → true ≡ is_thing t ts
+pub held-found : (ts : List Point) (t u : Point) (n : ℕ) → n < length ts → u ≡ get_or ts n u → same_point u t ≡ true
+    → true ≡ is_thing t ts
 held-found ts t u n l q e = sym (among-thing t ts (let F : Point → Type 0 = λ y. Among y ts in
     subst F (point-one u t e) (subst F (sym q) (any ts n u l))))
   where

@@ -4,8 +4,8 @@ ghost use Rattle.std.specs.Prelude.{◌≡◌, ◌∷◌, ◌++◌, ◌+◌, [],
 ghost use Rattle.id_check.specs.Programs.{rows};
 ghost use Rattle.id_why.specs.Found.{arguments, arguments_of, argument_by, arms, arm_by, before, body_by, filler_at};
 ghost use Rattle.id_why.specs.Found.{fillers, filler, first_by, has_value, head_in, lacking, may_be, may_fill, needs};
-ghost use Rattle.id_why.specs.Found.{others, passed, passed_at, passed_by, seen_at, some_if, stored, tested, things_at, turn_by};
-ghost use Rattle.id_why.specs.Found.{turns_at, wanted};
+ghost use Rattle.id_why.specs.Found.{others, passed, passed_at, passed_by, seen_at, some_if, stored, tested};
+ghost use Rattle.id_why.specs.Found.{things_at, turn_by, turns_at, wanted};
 ghost use Rattle.id_why.specs.Known.{known_facts};
 ghost use Rattle.id_why.specs.Needs.{node_at};
 ghost use Rattle.id_source.specs.Links.{bounds_parts, some_row};

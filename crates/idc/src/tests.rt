@@ -409,7 +409,7 @@ fn refuses_no_steps_and_elements_beyond_64(rt: HostRuntime) {
 
 #[test]
 fn judges_a_log_as_it_comes(rt: HostRuntime) -> Result<(), Fail> {
-    // pieces of a byte; the first line, and a front of it; a read that fails behind the last line, or behind a wrong one
+    // pieces of a byte; the first line, and a front of it; a read that fails behind the last line, or a wrong one
     let (seven, given) = ("def main(): int = 7;", "def main(n: int): int = n;");
     for (text, words, most, end, fails, out, err, status) in [
         (

@@ -1,5 +1,6 @@
 -- The keys of the messages that an activation may have, by the rows of its block.
-use Rattle.std.proofs.Common.{◌≡◌, ◌⊎◌, inl, inr, ℕ, zero, suc, ◌+◌, ◌<◌, Bool, true, false, Some, List, [], ◌∷◌, ◌++◌, length, slice_get}
+use Rattle.std.proofs.Common.{◌≡◌, ◌⊎◌, inl, inr, ℕ, zero, suc, ◌+◌, ◌<◌, Bool, true, false, Some, List, [], ◌∷◌, ◌++◌}
+use Rattle.std.proofs.Common.{length, slice_get}
 use Rattle.std.proofs.Common.{refl, sym, ◌∙◌, ap, subst, arith, length-append}
 use Rattle.std.specs.Prelude.{flat_map, if◌then◌else◌, sum_by}
 use Rattle.std.proofs.lemmas.Bool.{cases_eq}
@@ -34,14 +35,17 @@ those_among : (f : ℕ → Bool) (n i : ℕ) → i < n → f i ≡ true → Amon
 those_among f zero i less passes = absurd (omega arith)
 those_among f (suc n) i less passes = by (cases_eq i n) (f n) refl (λ low. those_among f n i low passes)
   where
-    there : (i ≡ n) ⊎ (i < n) → (b : Bool) → f n ≡ b → (i < n → Among i (those f n)) → Among i (if b then those f n ++ n ∷ [] else those f n)
+    there : (i ≡ n) ⊎ (i < n) → (b : Bool) → f n ≡ b → (i < n → Among i (those f n))
+        → Among i (if b then those f n ++ n ∷ [] else those f n)
     there (inl is) true e rest = Among-right i (those f n) (n ∷ []) (inl is)
     there (inl is) false e rest = let bad : true ≡ false = sym passes ∙ ap f is ∙ e in cc
     there (inr low) true e rest = Among-left i (those f n) (n ∷ []) (rest low)
     there (inr low) false e rest = rest low
 
-    by : (i ≡ n) ⊎ (i ≡ n → ⊥) → (b : Bool) → f n ≡ b → (i < n → Among i (those f n)) → Among i (if f n then those f n ++ n ∷ [] else those f n)
-    by (inl is) b e rest = subst (λ c. Among i (if c then those f n ++ n ∷ [] else those f n)) (sym e) (there (inl is) b e rest)
+    by : (i ≡ n) ⊎ (i ≡ n → ⊥) → (b : Bool) → f n ≡ b → (i < n → Among i (those f n))
+        → Among i (if f n then those f n ++ n ∷ [] else those f n)
+    by (inl is) b e rest =
+        subst (λ c. Among i (if c then those f n ++ n ∷ [] else those f n)) (sym e) (there (inl is) b e rest)
     by (inr other) b e rest =
         let low : i < n = omega arith in
         subst (λ c. Among i (if c then those f n ++ n ∷ [] else those f n)) (sym e) (there (inr low) b e rest)
@@ -77,11 +81,13 @@ module _ (number : ℕ → ℕ → ℕ) (a : Activation) where
       let same : p ≡ q = cc in
       let start : 0 + k ≡ k = omega arith in
       Among-left key (keys_for a (number n k) (op_by number p.form)) (parts_keys n (suc k) qs)
-      (subst (λ (z : ℕ × Piece). Among key (keys_for a (number n z.0) (op_by number z.1.form))) {x = (0 + k, q)} {y = (k, p)} (λ d. (start d, sym same d)) h)
+      (subst (λ (z : ℕ × Piece). Among key (keys_for a (number n z.0) (op_by number z.1.form))) {x = (0 + k, q)} {y =
+      (k, p)} (λ d. (start d, sym same d)) h)
   part_among n k (p ∷ qs) (suc m) q key at h =
       let next : suc m + k ≡ m + suc k = omega arith in
       Among-right key (keys_for a (number n k) (op_by number p.form)) (parts_keys n (suc k) qs)
-      (part_among n (suc k) qs m q key at (subst (λ z. Among key (keys_for a (number n z) (op_by number q.form))) next h))
+      (part_among n (suc k) qs m q key at
+      (subst (λ z. Among key (keys_for a (number n z) (op_by number q.form))) next h))
 
   module _ (P : Checked) where
     -- those of a row
@@ -95,7 +101,8 @@ module _ (number : ℕ → ℕ → ℕ) (a : Activation) where
     pub block_long : (h : ℕ) → length (block_keys h) ≡ messages_in_block P h
     block_long h =
         length-flat_map row_keys (those (in_block P h) (answer_row P))
-        ∙ sum_by_alike (λ n. length (row_keys n)) (messages_in_row P) (those (in_block P h) (answer_row P)) (λ n. parts_long n 0 (made P n))
+        ∙ sum_by_alike (λ n. length (row_keys n)) (messages_in_row P) (those (in_block P h) (answer_row P))
+        (λ n. parts_long n 0 (made P n))
 
     -- a row stands in its block
     pub stands_in : (n h : ℕ) → block P n ≡ h → in_block P h n ≡ true
@@ -105,16 +112,20 @@ module _ (number : ℕ → ℕ → ℕ) (a : Activation) where
     row_long n = parts_long n 0 (made P n)
 
     -- a key of a part of a row is among those of the row
-    pub row_key : {n part e : ℕ} {f : Form} (key : Key) → Makes P n part f e → Among key (keys_for a (number n part) (op_by number f))
+    pub row_key : {n part e : ℕ} {f : Form} (key : Key) → Makes P n part f e
+        → Among key (keys_for a (number n part) (op_by number f))
         → Among key (row_keys n)
     row_key {n} {part} {e} {f} key makes among =
         let start : part ≡ part + 0 = omega arith in
-        part_among n 0 (made P n) part (piece f e) key makes.at (subst (λ z. Among key (keys_for a (number n z) (op_by number f))) start among)
+        part_among n 0 (made P n) part (piece f e) key makes.at
+        (subst (λ z. Among key (keys_for a (number n z) (op_by number f))) start among)
 
     -- and of those of the row's block
-    pub block_key : IsKnown P → {n part e : ℕ} {f : Form} (h : ℕ) (key : Key) → Makes P n part f e → (node P n ≡ Program → ⊥) → block P n ≡ h
-        → Among key (keys_for a (number n part) (op_by number f)) → Among key (block_keys h)
+    pub block_key : IsKnown P → {n part e : ℕ} {f : Form} (h : ℕ) (key : Key) → Makes P n part f e
+        → (node P n ≡ Program → ⊥) → block P n ≡ h → Among key (keys_for a (number n part) (op_by number f))
+        → Among key (block_keys h)
     block_key known {n} h key makes other stands among =
         let before : n + 1 < length (rows P) = not_last P known.table n makes.within other in
         Among-flat_map row_keys key n (those (in_block P h) (answer_row P))
-        (those_among (in_block P h) (answer_row P) n (omega (arith, before)) (stands_in n h stands)) (row_key key makes among)
+        (those_among (in_block P h) (answer_row P) n (omega (arith, before)) (stands_in n h stands))
+        (row_key key makes among)

@@ -1,5 +1,6 @@
 -- The messages of a run are no more than the keys of its live activations, and these have paths of their own.
-use Rattle.std.proofs.Common.{◌≡◌, ◌⊎◌, inl, inr, ℕ, zero, suc, ◌+◌, ◌*◌, ◌≤◌, List, [], ◌∷◌, length, map, refl, sym, ap, subst, arith}
+use Rattle.std.proofs.Common.{◌≡◌, ◌⊎◌, inl, inr, ℕ, zero, suc, ◌+◌, ◌*◌, ◌≤◌, List, [], ◌∷◌, length, map, refl, sym}
+use Rattle.std.proofs.Common.{ap, subst, arith}
 use Rattle.std.proofs.lemmas.List.{length-map}
 use Rattle.std.proofs.lemmas.Bool.{cases_eq}
 use Rattle.id_value.specs.List.{Among, AllDiffer}
@@ -71,11 +72,16 @@ keys_differ (x ∷ xs) few = (
   keys_differ xs (λ k. omega (arith, few k, count_cons k x xs)),
 )
 
-module _ (S : Source) (known : IsKnown S.checked) (are : AreWhole S) (g : Parts) (number : ℕ → ℕ → ℕ) (numbered : Numbered S.checked g number)
+module _ (S : Source) (known : IsKnown S.checked) (are : AreWhole S) (g : Parts) (number : ℕ → ℕ
+    → ℕ) (numbered : Numbered S.checked g number)
     (count : ℕ) (s : World) (run : List Event) (r : Reach g S.inputs count s run) where
   -- a tag fires once in the run, and each number that a place Has is one of the language
   pub backed : IsBacked S run
-  backed = record { once = fired_once g S.inputs count (alone S known are g number numbered count) s run r; wholes = λ p e i. wholes S are }
+  backed = record {
+    once = fired_once g S.inputs count (alone S known are g number numbered count) s run r;
+    wholes =
+        λ p e i. wholes S are;
+  }
 
   -- what the messages are for
   abbrev pub keys : List Key
@@ -106,7 +112,12 @@ module _ (S : Source) (known : IsKnown S.checked) (are : AreWhole S) (g : Parts)
   moved k h =
       let x = Among-from_map key_of k (messages s) h in
       let all : 1 ≤ count_for k (flying s) + count_for k (handled run) =
-      omega (arith, counts k x.0 (messages s) x.1 (sym x.2), count_append k shown (flying s), told_all g S.inputs count s run r k) in
+      omega (
+        arith,
+        counts k x.0 (messages s) x.1 (sym x.2),
+        count_append k shown (flying s),
+        told_all g S.inputs count s run r k,
+      ) in
       by (count_for k (flying s)) refl all
     where
       by : (n : ℕ) → count_for k (flying s) ≡ n → 1 ≤ count_for k (flying s) + count_for k (handled run) → Moved k
@@ -128,7 +139,8 @@ module _ (S : Source) (known : IsKnown S.checked) (are : AreWhole S) (g : Parts)
   key_among k h =
       let m = moved k h in
       subst (λ j. Among j (keys_of g (under j))) (sym m.has)
-      (told_key S number run g numbered m.payload (all_tell S known g number numbered run count s r backed m.payload m.moving))
+      (told_key S number run g numbered m.payload
+      (all_tell S known g number numbered run count s r backed m.payload m.moving))
 
   -- the activations of the messages, each once
   pub acting : EachOnce Activation (map under keys)
@@ -168,7 +180,8 @@ module _ (S : Source) (known : IsKnown S.checked) (are : AreWhole S) (g : Parts)
     pub all : (a : Activation) → Among a xs → (p : Path) × Among p list × PathOf S number run a p
 
   paths_of : (xs : List Activation) → AllDiffer xs → ((a : Activation) → Among a xs → IsLive S number run a) → Paths xs
-  paths_of [] differ live = record { list = []; long = refl; differ = tt; each = λ p h. absurd h; all = λ a h. absurd h }
+  paths_of [] differ live =
+      record { list = []; long = refl; differ = tt; each = λ p h. absurd h; all = λ a h. absurd h }
   paths_of (a ∷ xs) differ live =
       let rest = paths_of xs differ.1 (λ b h. live b (inr h)) in
       let here = live a (inl refl) in
@@ -179,13 +192,22 @@ module _ (S : Source) (known : IsKnown S.checked) (are : AreWhole S) (g : Parts)
         differ = (
           λ h.
               let x = rest.each path.0 h in
-              let one = one_activation S known g number numbered count s run r backed here.1 x.live.1 path.1 x.path_of in
+              let one =
+              one_activation S known g number numbered count s run r backed here.1 x.live.1 path.1 x.path_of in
               differ.0 (subst (λ b. Among b xs) (sym one) x.among),
           rest.differ,
         );
         each = λ p h. elim h [
-          | inl e ↦ record { activation = a; among = inl refl; live = here; path_of = subst (PathOf S number run a) (sym e) path.1 }
-          | inr old ↦ let x = rest.each p old in record { activation = x.activation; among = inr x.among; live = x.live; path_of = x.path_of }
+          | inl e ↦ record {
+            activation = a;
+            among = inl refl;
+            live = here;
+            path_of =
+                subst (PathOf S number run a) (sym e) path.1;
+          }
+          | inr old ↦ let x =
+              rest.each p old in
+              record { activation = x.activation; among = inr x.among; live = x.live; path_of = x.path_of }
         ];
         all = λ b h. elim h [
           | inl e ↦ (path.0, inl refl, subst (λ c. PathOf S number run c path.0) (sym e) path.1)
@@ -213,4 +235,5 @@ module _ (S : Source) (known : IsKnown S.checked) (are : AreWhole S) (g : Parts)
 pub bounded : Bounded
 bounded = λ S inputs r.
     let x = reached r.graph S.inputs r.count r.positions in
-    bounded_at S (known S.checked) (are_whole S inputs) r.graph r.schemas.number r.schemas.numbered r.count _ x.events x.reach
+    bounded_at S (known S.checked) (are_whole S inputs) r.graph r.schemas.number r.schemas.numbered r.count _ x.events
+    x.reach

@@ -47,7 +47,8 @@ use Rattle.id_laws.proofs.Telling.StartTells.{all_tell, seats}
 use Rattle.id_laws.proofs.Rows.Tokens.{one_part, token_is}
 use Rattle.id_laws.proofs.Telling.Wholes.{AreWhole, are_whole}
 use Rattle.id_laws.specs.ByBlock.{BoundedByBlock, IsBoundedByBlock, IsTurn, Turn, messages_in_block, messages_of}
-use Rattle.id_laws.proofs.Bounding.BlockKeys.{block_key, block_keys, block_long, row_key, row_keys, row_long, sum_by_alike}
+use Rattle.id_laws.proofs.Bounding.BlockKeys.{block_key, block_keys, block_long, row_key, row_keys, row_long}
+use Rattle.id_laws.proofs.Bounding.BlockKeys.{sum_by_alike}
 use Rattle.id_laws.proofs.Bounding.BlockRows.{answer_main, one_block, part_block, row_block}
 use Rattle.id_laws.proofs.Bounding.BoundsLemmas.{acting, acting_live, backed as is_backed, keys, keys_are_apart, moved}
 use Rattle.id_laws.proofs.Bounding.DifferCounts.{Among-flat_map, length-flat_map}
@@ -69,9 +70,11 @@ token_no_write e = cc
 
 sum_by_map : {A B : Type 0} (f : B → ℕ) (h : A → B) (xs : List A) → sum_by f (map h xs) ≡ sum_by (λ x. f (h x)) xs
 sum_by_map f h [] = refl
-sum_by_map f h (x ∷ xs) = omega (arith, sum_by-cons f (h x) (map h xs), sum_by-cons (λ z. f (h z)) x xs, sum_by_map f h xs)
+sum_by_map f h (x ∷ xs) =
+    omega (arith, sum_by-cons f (h x) (map h xs), sum_by-cons (λ z. f (h z)) x xs, sum_by_map f h xs)
 
-module _ (S : Source) (known : IsKnown S.checked) (are : AreWhole S) (g : Parts) (number : ℕ → ℕ → ℕ) (numbered : Numbered S.checked g number)
+module _ (S : Source) (known : IsKnown S.checked) (are : AreWhole S) (g : Parts) (number : ℕ → ℕ
+    → ℕ) (numbered : Numbered S.checked g number)
     (count : ℕ) (s : World) (run : List Event) (r : Reach g S.inputs count s run) where
   abbrev P : Checked
   P = S.checked
@@ -88,7 +91,8 @@ module _ (S : Source) (known : IsKnown S.checked) (are : AreWhole S) (g : Parts)
   answer_long : length answer_keys ≡ 1
   answer_long =
       row_long number main_activation P (answer_row P)
-      ∙ ap (λ m. sum_by (λ (q : Piece). messages_of q.form) (made_of P (answer_row P) (place P (answer_row P)) m)) (known.table).ends
+      ∙ ap (λ m. sum_by (λ (q : Piece). messages_of q.form) (made_of P (answer_row P) (place P (answer_row P)) m))
+      (known.table).ends
 
   -- the key is the answer's, or one of the block that its activation's context was opened for
   record InItsBlock (k : Key) : Type 0 where
@@ -100,20 +104,26 @@ module _ (S : Source) (known : IsKnown S.checked) (are : AreWhole S) (g : Parts)
   Keyed k = Among k answer_keys ⊎ InItsBlock k
 
   -- a token for the answer comes under main's activation
-  answered : (x : Payload) → Moving s run x → (y : ToldToken S number run x) → node P y.row ≡ Program → y.activation ≡ main_activation
+  answered : (x : Payload) → Moving s run x → (y : ToldToken S number run x) → node P y.row ≡ Program
+      → y.activation ≡ main_activation
   answered x moving y is = by (origin g S.inputs count s run r x moving)
     where
       of_event : (e : Event) → SentSo S number run e x → y.activation ≡ main_activation
       of_event e (as_token c) =
           let tags = (token_is (sym y.is ∙ c.is)).0 in
           let one = one_part numbered y.is_part c.is_part (ap (λ (t : Tag). t.instr) tags) in
-          ap activation_of tags ∙ answer_main S known number run g numbered (contexts_apart g S.inputs count s run r) c.way (ap (node P) (sym one.0) ∙ is)
+          ap activation_of tags
+          ∙ answer_main S known number run g numbered (contexts_apart g S.inputs count s run r) c.way
+          (ap (node P) (sym one.0) ∙ is)
       of_event e (as_read c) = absurd (token_no_read (sym y.is ∙ c.is))
       of_event e (as_write c) = absurd (token_no_write (sym y.is ∙ c.is))
 
       by : Among x (starting g S.inputs) ⊎ SentBy g run x → y.activation ≡ main_activation
       by (inl h) = let z = started S g number numbered known x h in ap activation_of (token_is (sym y.is ∙ z.is)).0
-      by (inr h) = of_event h.event (sent_so S g number numbered count s run r known (all_tell S known g number numbered run count s r backed) h.event h.among x h.sends)
+      by (inr h) =
+          of_event h.event
+          (sent_so S g number numbered count s run r known (all_tell S known g number numbered run count s r backed)
+          h.event h.among x h.sends)
 
   -- a token's key is the answer's, or one of the row's block
   token_keyed : (x : Payload) → Moving s run x → (y : ToldToken S number run x)
@@ -123,17 +133,24 @@ module _ (S : Source) (known : IsKnown S.checked) (are : AreWhole S) (g : Parts)
     | inr other ↦ inside (λ is. other (omega (arith, (known.table).ends_once y.row ((y.is_part).makes).within is)))
   ]
     where
-      answer : node P y.row ≡ Program → y.row ≡ answer_row P → Keyed (AtPort (tag_in y.activation (number y.row y.part)) y.port)
+      answer : node P y.row ≡ Program → y.row ≡ answer_row P
+          → Keyed (AtPort (tag_in y.activation (number y.row y.part)) y.port)
       answer is e =
-          let here = row_key number y.activation P (AtPort (tag_in y.activation (number y.row y.part)) y.port) (y.is_part).makes (part_key S number run y) in
-          inl (subst (λ (z : Activation × ℕ). Among (AtPort (tag_in y.activation (number y.row y.part)) y.port) (row_keys number z.0 P z.1))
+          let here =
+          row_key number y.activation P (AtPort (tag_in y.activation (number y.row y.part)) y.port) (y.is_part).makes
+          (part_key S number run y) in
+          inl (subst
+          (λ (z : Activation × ℕ). Among (AtPort (tag_in y.activation (number y.row y.part)) y.port)
+          (row_keys number z.0 P z.1))
           {x = (y.activation, y.row)} {y = (main_activation, answer_row P)} (λ i. (answered x moving y is i, e i)) here)
 
       inside : (node P y.row ≡ Program → ⊥) → Keyed (AtPort (tag_in y.activation (number y.row y.part)) y.port)
       inside other = inr (record {
         head = block P y.row;
-        opened = part_block S known number run y.activation y.value y.row ((y.is_part).makes).within y.port (doing (y.is_part).makes).does other y.tells;
-        among = block_key number y.activation P known (block P y.row) (AtPort (tag_in y.activation (number y.row y.part)) y.port) (y.is_part).makes other refl
+        opened = part_block S known number run y.activation y.value y.row ((y.is_part).makes).within y.port
+            (doing (y.is_part).makes).does other y.tells;
+        among = block_key number y.activation P known (block P y.row)
+            (AtPort (tag_in y.activation (number y.row y.part)) y.port) (y.is_part).makes other refl
             (part_key S number run y);
       })
 
@@ -144,7 +161,8 @@ module _ (S : Source) (known : IsKnown S.checked) (are : AreWhole S) (g : Parts)
       subst (λ u. Keyed (ByFetch u)) (sym y.is) (inr (record {
         head = block P y.row;
         opened = row_block S known number run y.within other y.live;
-        among = block_key number y.activation P known (block P y.row) (ByFetch (tag_in y.activation (number y.row 2))) (makes y.within (fetches y.node)) other
+        among = block_key number y.activation P known (block P y.row) (ByFetch (tag_in y.activation (number y.row 2)))
+            (makes y.within (fetches y.node)) other
             refl (inr (inl refl));
       }))
   keyed (Write c v w) moving y =
@@ -152,14 +170,16 @@ module _ (S : Source) (known : IsKnown S.checked) (are : AreWhole S) (g : Parts)
       subst (λ u. Keyed (ByStore u)) (sym y.is) (inr (record {
         head = block P y.row;
         opened = row_block S known number run y.within other y.live;
-        among = block_key number y.activation P known (block P y.row) (ByStore (tag_in y.activation (number y.row 0))) (makes y.within (stores y.node)) other
+        among = block_key number y.activation P known (block P y.row) (ByStore (tag_in y.activation (number y.row 0)))
+            (makes y.within (stores y.node)) other
             refl (inr (inr (inl refl)));
       }))
 
   key_keyed : (k : Key) → Among k (keys S known are g number numbered count s run r) → Keyed k
   key_keyed k h =
       let m = moved S known are g number numbered count s run r k h in
-      subst Keyed (sym m.has) (keyed m.payload m.moving (all_tell S known g number numbered run count s r backed m.payload m.moving))
+      subst Keyed (sym m.has)
+      (keyed m.payload m.moving (all_tell S known g number numbered run count s r backed m.payload m.moving))
 
   -- ---- turns
 
@@ -207,7 +227,9 @@ module _ (S : Source) (known : IsKnown S.checked) (are : AreWhole S) (g : Parts)
               let y = Among-from_map turn_of t.0 rest.list t.1 in
               let z = rest.each y.0 y.1 in
               let same : path.0 ≡ (y.0).path = t.2 ∙ ap (λ (t : Turn). t.path) y.2 in
-              let one = one_activation S known g number numbered count s run r backed here.1 (z.live).1 (subst (PathOf S number run a) same path.1) z.path_of in
+              let one =
+              one_activation S known g number numbered count s run r backed here.1 (z.live).1
+              (subst (PathOf S number run a) same path.1) z.path_of in
               differ.0 (subst (λ b. Among b xs) (sym one) z.among),
           rest.differ,
         );
@@ -218,7 +240,8 @@ module _ (S : Source) (known : IsKnown S.checked) (are : AreWhole S) (g : Parts)
             path_of = path.1;
             turn = x.turn;
           })
-          | inr old ↦ let z = rest.each y old in record { among = inr z.among; live = z.live; path_of = z.path_of; turn = z.turn }
+          | inr old ↦ let z =
+              rest.each y old in record { among = inr z.among; live = z.live; path_of = z.path_of; turn = z.turn }
         ];
         all = λ b h. elim h [
           | inl e ↦ record {
@@ -227,7 +250,8 @@ module _ (S : Source) (known : IsKnown S.checked) (are : AreWhole S) (g : Parts)
             is = sym e;
             opened = subst (λ c. OpenedFor S number run c.context x.head) (sym e) x.opened;
           }
-          | inr old ↦ let z = rest.all b old in record { acted = z.acted; among = inr z.among; is = z.is; opened = z.opened }
+          | inr old ↦ let z =
+              rest.all b old in record { acted = z.acted; among = inr z.among; is = z.is; opened = z.opened }
         ];
       }
 
@@ -249,11 +273,14 @@ module _ (S : Source) (known : IsKnown S.checked) (are : AreWhole S) (g : Parts)
     | inl answer ↦ Among-left k answer_keys (flat_map acted_keys turns.list) answer
     | inr x ↦
         let as_all = acting S known are g number numbered count s run r in
-        let y = turns.all (under k) (as_all.all (under k) (Among-map under k (keys S known are g number numbered count s run r) h)) in
-        let head = one_block S known number run g numbered (contexts_apart g S.inputs count s run r) x.opened y.opened in
+        let y = turns.all (under k)
+        (as_all.all (under k) (Among-map under k (keys S known are g number numbered count s run r) h)) in
+        let head =
+        one_block S known number run g numbered (contexts_apart g S.inputs count s run r) x.opened y.opened in
         Among-right k answer_keys (flat_map acted_keys turns.list)
         (Among-flat_map acted_keys k y.acted turns.list y.among
-        (subst (λ (z : Activation × ℕ). Among k (block_keys number z.0 P z.1)) {x = (under k, x.head)} {y = ((y.acted).activation, (y.acted).head)}
+        (subst (λ (z : Activation × ℕ). Among k (block_keys number z.0 P z.1)) {x = (under k, x.head)} {y =
+        ((y.acted).activation, (y.acted).head)}
         (λ i. (sym y.is i, head i)) x.among))
   ]
 
@@ -261,15 +288,18 @@ module _ (S : Source) (known : IsKnown S.checked) (are : AreWhole S) (g : Parts)
   by_block = record {
     turns = map turn_of turns.list;
     differ = turns.differ;
-    active = λ t h. (let y = Among-from_map turn_of t turns.list h in subst (IsTurn S) (sym y.2) ((turns.each y.0 y.1).turn));
+    active = λ t h. (let y = Among-from_map turn_of t turns.list h in
+        subst (IsTurn S) (sym y.2) ((turns.each y.0 y.1).turn));
     few = omega (
       arith,
       length-map (messages s) key_of,
-      AllDiffer-few (keys S known are g number numbered count s run r) all_keys (keys_are_apart S known are g number numbered count s run r) key_in,
+      AllDiffer-few (keys S known are g number numbered count s run r) all_keys
+          (keys_are_apart S known are g number numbered count s run r) key_in,
       length-append answer_keys (flat_map acted_keys turns.list),
       answer_long,
       length-flat_map acted_keys turns.list,
-      sum_by_alike (λ x. length (acted_keys x)) (λ (x : Acted). messages_in_block P x.head) turns.list (λ x. block_long number x.activation P x.head),
+      sum_by_alike (λ x. length (acted_keys x)) (λ (x : Acted). messages_in_block P x.head) turns.list
+          (λ x. block_long number x.activation P x.head),
       sum_by_map (λ (t : Turn). messages_in_block P t.head) turn_of turns.list,
     );
   }
@@ -277,4 +307,5 @@ module _ (S : Source) (known : IsKnown S.checked) (are : AreWhole S) (g : Parts)
 pub bounded_by_block : BoundedByBlock
 bounded_by_block = λ S inputs r.
     let x = reached r.graph S.inputs r.count r.positions in
-    by_block S (known S.checked) (are_whole S inputs) r.graph r.schemas.number r.schemas.numbered r.count _ x.events x.reach
+    by_block S (known S.checked) (are_whole S inputs) r.graph r.schemas.number r.schemas.numbered r.count _ x.events
+    x.reach

@@ -1,5 +1,6 @@
 -- How long a list is whose things differ, where each has a place in one of some lists.
-use Rattle.std.proofs.Common.{◌≡◌, ◌⊎◌, inl, inr, ℕ, ◌+◌, ◌*◌, ◌≤◌, List, [], ◌∷◌, length, refl, sym, ◌∙◌, ap, subst, arith, length-append}
+use Rattle.std.proofs.Common.{◌≡◌, ◌⊎◌, inl, inr, ℕ, ◌+◌, ◌*◌, ◌≤◌, List, [], ◌∷◌, length, refl, sym, ◌∙◌, ap, subst}
+use Rattle.std.proofs.Common.{arith, length-append}
 use Rattle.std.specs.Prelude.{sum_by, flat_map}
 use Rattle.std.proofs.lemmas.List.Sums.{sum_by-cons}
 use Rattle.id_value.specs.List.{Among, AllDiffer}
@@ -48,12 +49,15 @@ each_once A test (x ∷ xs) =
     ]
 
 -- lists one behind another are as long as all of them
-pub length-flat_map : {A B : Type 0} (f : A → List B) (xs : List A) → length (flat_map f xs) ≡ sum_by (λ x. length (f x)) xs
+pub length-flat_map : {A B : Type 0} (f : A → List B) (xs : List A)
+    → length (flat_map f xs) ≡ sum_by (λ x. length (f x)) xs
 length-flat_map f [] = refl
 length-flat_map f (x ∷ xs) =
-    length-append (f x) (flat_map f xs) ∙ ap (λ n. length (f x) + n) (length-flat_map f xs) ∙ sym (sum_by-cons (λ x. length (f x)) x xs)
+    length-append (f x) (flat_map f xs) ∙ ap (λ n. length (f x) + n) (length-flat_map f xs)
+    ∙ sym (sum_by-cons (λ x. length (f x)) x xs)
 
-pub Among-flat_map : {A B : Type 0} (f : A → List B) (y : B) (x : A) (xs : List A) → Among x xs → Among y (f x) → Among y (flat_map f xs)
+pub Among-flat_map : {A B : Type 0} (f : A → List B) (y : B) (x : A) (xs : List A) → Among x xs → Among y (f x)
+    → Among y (flat_map f xs)
 Among-flat_map f y x [] h k = absurd h
 Among-flat_map {B = B} f y x (z ∷ xs) (inl e) k = Among-left y (f z) (flat_map f xs) (subst (λ w. Among y (f w)) e k)
 Among-flat_map f y x (z ∷ xs) (inr h) k = Among-right y (f z) (flat_map f xs) (Among-flat_map f y x xs h k)
@@ -61,7 +65,8 @@ Among-flat_map f y x (z ∷ xs) (inr h) k = Among-right y (f z) (flat_map f xs) 
 -- the sum of what is one number each time
 pub sum_by_same : {A : Type 0} (f : A → ℕ) (n : ℕ) (xs : List A) → ((x : A) → f x ≡ n) → sum_by f xs ≡ n * length xs
 sum_by_same f n [] each = omega arith
-sum_by_same f n (x ∷ xs) each = let a = sum_by-cons f x xs in let b = sum_by_same f n xs each in let c = each x in omega arith
+sum_by_same f n (x ∷ xs) each =
+    let a = sum_by-cons f x xs in let b = sum_by_same f n xs each in let c = each x in omega arith
 
 -- where all of a list differ and each stands in the list of a thing of another, there are no more than those lists have
 pub few_by : {A B : Type 0} (f : A → List B) (ys : List B) (xs : List A) → AllDiffer ys

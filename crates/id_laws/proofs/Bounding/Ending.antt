@@ -47,8 +47,10 @@ use Rattle.id_laws.specs.Bounded.{IsActive, IsAtEnd, RestIsTheEnd, something_on,
 use Rattle.id_laws.proofs.Bounding.BoundsLemmas.{acting, acting_paths, keys, paths_active}
 use Rattle.id_laws.proofs.Bounding.Told.{under}
 
-module _ (S : Source) (known : IsKnown S.checked) (inputs : AreInputs S.checked S.inputs) (are : AreWhole S) (g : Parts) (number : ℕ → ℕ → ℕ)
-    (numbered : Numbered S.checked g number) (count : ℕ) (s : World) (run : List Event) (r : Reach g S.inputs count s run) (quiet : IsQuiet s) where
+module _ (S : Source) (known : IsKnown S.checked) (inputs : AreInputs S.checked S.inputs) (are : AreWhole S) (g : Parts)
+    (number : ℕ → ℕ → ℕ)
+    (numbered : Numbered S.checked g number) (count : ℕ) (s : World) (run : List Event)
+    (r : Reach g S.inputs count s run) (quiet : IsQuiet s) where
   abbrev P : Checked
   P = S.checked
 
@@ -63,19 +65,24 @@ module _ (S : Source) (known : IsKnown S.checked) (inputs : AreInputs S.checked 
   told = map (λ (v : EventView). v.message.payload) (events s)
 
   -- the key of what has fired is that of a message of an event
-  key_shown : {t : Tag} {f : Fired} (x : FiresAs run t f) → Among (AtPort t x.port) (keys S known are g number numbered count s run r)
+  key_shown : {t : Tag} {f : Fired} (x : FiresAs run t f)
+      → Among (AtPort t x.port) (keys S known are g number numbered count s run r)
   key_shown {t} x =
       let k = AtPort t x.port in
-      let here = counts k (Token t x.port x.value) (handled run) (Among-map payload_of (fired_event x) run x.among) refl in
+      let here =
+      counts k (Token t x.port x.value) (handled run) (Among-map payload_of (fired_event x) run x.among) refl in
       let y = counted k told (omega (arith, told_all g S.inputs count s run r k, here)) in
-      subst (λ j. Among j (map key_of (messages s))) y.2 (Among-map key_of y.0 (messages s) (Among-left y.0 told (flying s) y.1))
+      subst (λ j. Among j (map key_of (messages s))) y.2
+      (Among-map key_of y.0 (messages s) (Among-left y.0 told (flying s) y.1))
 
   -- a live activation is one of those of the messages
-  live_acts : {a : Activation} {q : Region} → Live S number run a q → Among a (acting S known are g number numbered count s run r).list
+  live_acts : {a : Activation} {q : Region} → Live S number run a q
+      → Among a (acting S known are g number numbered count s run r).list
   live_acts {a} live =
       let fires = (live_turned S g number numbered known count only s run r settled live).fires in
       let all = acting S known are g number numbered count s run r in
-      all.all a (Among-map under (AtPort _ fires.port) (keys S known are g number numbered count s run r) (key_shown fires))
+      all.all a
+      (Among-map under (AtPort _ fires.port) (keys S known are g number numbered count s run r) (key_shown fires))
 
   -- its path is among theirs
   path_among : {a : Activation} {q : Region} {p : Path} → Live S number run a q → PathOf S number run a p
@@ -92,14 +99,16 @@ module _ (S : Source) (known : IsKnown S.checked) (inputs : AreInputs S.checked 
 
   -- where a run may do something an activation has the path
   active_among : (p : Path) → IsActive S p → Among p (acting_paths S known are g number numbered count s run r).list
-  active_among p (something_on e on) = let here : Here S number run p e = held (On p e) on in path_among here.live here.path_of
+  active_among p (something_on e on) =
+      let here : Here S number run p e = held (On p e) on in path_among here.live here.path_of
   active_among p (index_has {x = x} {v = v} stands has) =
       let there : CarriedHas S number run p (place P x) v = held (Has p (place P x) v) has in
       path_among (there.here).live (there.here).path_of
   active_among p (loop_begins {n = n} {q = q} stands on path) =
       let here : Here S number run q (place P n) = held (On q (place P n)) on in
       let made = starting S g number numbered known inputs count only s run r settled here stands.loop in
-      subst (λ z. Among z (acting_paths S known are g number numbered count s run r).list) (sym path) (path_among made.live (made.path_of 0))
+      subst (λ z. Among z (acting_paths S known are g number numbered count s run r).list) (sym path)
+      (path_among made.live (made.path_of 0))
 
   -- each of these activations has a message, so an event has
   few_paths : length (acting_paths S known are g number numbered count s run r).list ≤ length (events s)
@@ -128,4 +137,5 @@ module _ (S : Source) (known : IsKnown S.checked) (inputs : AreInputs S.checked 
 pub at_end : RestIsTheEnd
 at_end = λ S inputs r quiet.
     let x = reached r.graph S.inputs r.count r.positions in
-    ended S (known S.checked) inputs (are_whole S inputs) r.graph r.schemas.number r.schemas.numbered r.count _ x.events x.reach quiet
+    ended S (known S.checked) inputs (are_whole S inputs) r.graph r.schemas.number r.schemas.numbered r.count _ x.events
+    x.reach quiet

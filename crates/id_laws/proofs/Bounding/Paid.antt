@@ -1,5 +1,6 @@
 -- At the path of a live activation something is On or an index Has a value, or a `for` begins.
-use Rattle.std.proofs.Common.{arith, ◌≡◌, ℕ, suc, ◌<◌, ◌+◌, ◌-◌, Bool as Truth, true, false, ℤ, List, length, refl, sym, ◌∙◌, ap, subst}
+use Rattle.std.proofs.Common.{arith, ◌≡◌, ℕ, suc, ◌<◌, ◌+◌, ◌-◌, Bool as Truth, true, false, ℤ, List, length, refl, sym}
+use Rattle.std.proofs.Common.{◌∙◌, ap, subst}
 use Rattle.std.specs.Prelude.{◌+ℤ◌, int_lt, pos}
 use Rattle.id_table.specs.declared.row.Region.{Region}
 use Rattle.id_table.specs.declared.row.Node.TheVariants.{Index, Program, Start, Switches}
@@ -14,7 +15,8 @@ use Rattle.id_source.specs.declared.Fact.{Fact}
 use Rattle.id_source.specs.declared.Fact.TheVariants.{On, Has}
 use Rattle.id_source.specs.declared.SourceValue.TheVariants as value
 use Rattle.id_source.specs.Sources.{Source}
-use Rattle.id_source.specs.Facts.{ForStands, GoesOn, below, by_bounds, by_predicate, index_begins, index_counts, last_on, turn_on}
+use Rattle.id_source.specs.Facts.{ForStands, GoesOn, below, by_bounds, by_predicate, index_begins, index_counts}
+use Rattle.id_source.specs.Facts.{last_on, turn_on}
 use Rattle.id_source.specs.Facts as facts
 use Rattle.id_source.specs.Rounds.{Every, Holds}
 use Rattle.id_desugar.specs.Ends.{end_of}
@@ -23,13 +25,16 @@ use Rattle.id_build.proofs.EndsLemmas.{body_region}
 use Rattle.id_tag.specs.declared.Context.{Context}
 use Rattle.id_runs.specs.Activations.{Activation, at_iteration, main_activation}
 use Rattle.id_runs.specs.Events.{Event}
-use Rattle.id_laws.specs.Activations.{Goes, GoesAt, Live, Opens, PathOf, at_start, on_side, entered, again, of_call, of_loop, of_turns}
+use Rattle.id_laws.specs.Activations.{Goes, GoesAt, Live, Opens, PathOf, at_start, on_side, entered, again, of_call}
+use Rattle.id_laws.specs.Activations.{of_loop, of_turns}
 use Rattle.id_laws.proofs.Rows.Assumed.{IsKnown}
 use Rattle.id_laws.proofs.Rows.Calls.{call_at}
 use Rattle.id_laws.proofs.Rows.Conditionals.{test_at}
 use Rattle.id_laws.proofs.Validity.HasKinds.{expression_thing}
-use Rattle.id_laws.proofs.Rows.Loops.{LoopKind, LoopOf, counted, for_stands, head_block, index_at, kind_is, last_within, loop_by, loop_of_row}
-use Rattle.id_laws.proofs.Rows.Loops.{loop_of_start, plain, same_loop, stands_loop, start_place, start_region, switches_node, switches_region, switches_within}
+use Rattle.id_laws.proofs.Rows.Loops.{LoopKind, LoopOf, counted, for_stands, head_block, index_at, kind_is, last_within}
+use Rattle.id_laws.proofs.Rows.Loops.{loop_by, loop_of_row}
+use Rattle.id_laws.proofs.Rows.Loops.{loop_of_start, plain, same_loop, stands_loop, start_place, start_region}
+use Rattle.id_laws.proofs.Rows.Loops.{switches_node, switches_region, switches_within}
 use Rattle.id_laws.proofs.Paths.Opened.{InLoop, OpenedFor, live_block, live_loop, loop_path, next_path}
 use Rattle.id_laws.proofs.Rows.Regions.{region_of}
 use Rattle.id_laws.proofs.Paths.Seats.{OneSeat, entered_path, live_path, one_path}
@@ -64,8 +69,8 @@ module _ (S : Source) (known : IsKnown S.checked) (number : ℕ → ℕ → ℕ)
 
   module _ (seats : OneSeat S number run) where
     -- an expression of a region that is live
-    by_row : {a : Activation} {p : Path} {n : ℕ} → n < length (rows P) → is_expression (node P n) ≡ true → Live S number run a (region P n)
-        → PathOf S number run a p → Pays a p
+    by_row : {a : Activation} {p : Path} {n : ℕ} → n < length (rows P) → is_expression (node P n) ≡ true
+        → Live S number run a (region P n) → PathOf S number run a p → Pays a p
     by_row {a} {p} {n} within expression live path = record {
       head = block P n;
       opened = row_block S known number run within (λ e. true_false (sym expression ∙ ap is_expression e)) live;
@@ -74,21 +79,23 @@ module _ (S : Source) (known : IsKnown S.checked) (number : ℕ → ℕ → ℕ)
     }
 
     -- a procedure's body
-    by_body : {a : Activation} {p : Path} {d h : ℕ} → IsDefOf (rows P) d h → Live S number run a (top h) → PathOf S number run a p → Pays a p
+    by_body : {a : Activation} {p : Path} {d h : ℕ} → IsDefOf (rows P) d h → Live S number run a (top h)
+        → PathOf S number run a p → Pays a p
     by_body {a} {p} {d} {h} x live path =
         let stands = body_region P known.table d h x in
         let heads = (known.table).head_is d x.name h x.body x.result x.within x.node in
         by_row stands.0 heads.2 (subst (Live S number run a) (sym stands.1) live) path
 
     -- a loop's predicate
-    by_test : {a : Activation} {p : Path} {w t : ℕ} → w < length (rows P) → node P w ≡ Switches t → is_within (node P t) ≡ false
-        → Live S number run a (region P w) → PathOf S number run a p → Pays a p
+    by_test : {a : Activation} {p : Path} {w t : ℕ} → w < length (rows P) → node P w ≡ Switches t
+        → is_within (node P t) ≡ false → Live S number run a (region P w) → PathOf S number run a p → Pays a p
     by_test {a} {p} {w} {t} within is other live path =
         let z = test_at known within (of_turns is) in
         by_row z.within (z.expression other) (subst (Live S number run a) (sym z.region) live) path
 
     -- what stands in the block of a loop that is live
-    in_loop : {a : Activation} {p : Path} {h : ℕ} → LoopOf P h → Live S number run a (top h) → IsTurn S (turn_at p h) → Pays a p
+    in_loop : {a : Activation} {p : Path} {h : ℕ} → LoopOf P h → Live S number run a (top h) → IsTurn S (turn_at p h)
+        → Pays a p
     in_loop {a} {p} {h} l live turn = record {
       head = h;
       opened = subst (OpenedFor S number run a.context) (head_block P known h l) (live_block S known number run live);
@@ -108,18 +115,22 @@ module _ (S : Source) (known : IsKnown S.checked) (number : ℕ → ℕ → ℕ)
 
       for_head : {n x a b u : ℕ} (f : ForStands P n w x a b u) → f.head ≡ h
       for_head {n} {u = u} f =
-          let c : IsLoopOf (rows P) n f.head = record { switches = w; last = u; within = (f.loop).within; node = (f.loop).node } in
+          let c : IsLoopOf (rows P) n f.head =
+          record { switches = w; last = u; within = (f.loop).within; node = (f.loop).node } in
           let m = loop_by known c in
           one_block m (sym (same_loop known c m).switches)
 
-      -- of a loop with an index that Has a value in an iteration, in the next one the index has one, or the last expression is On
-      counts_on : {n x a b u : ℕ} {i hi : ℤ} (p : Path) (k : ℕ) → ForStands P n w x a b u → n ≡ q → Holds S (Has (below p (place P n) k) (place P x) (value.Int i))
+      -- of a loop with an index that Has a value in an iteration, in the next one the index has one, or the last
+      -- expression is On
+      counts_on : {n x a b u : ℕ} {i hi : ℤ} (p : Path) (k : ℕ) → ForStands P n w x a b u → n ≡ q
+          → Holds S (Has (below p (place P n) k) (place P x) (value.Int i))
           → Holds S (Has p (place P b) (value.Int hi)) → IsTurn S (turn_at (below p (place P q) (suc k)) h)
       counts_on {n} {x} {a} {b} {u} {i} {hi} p k f row has bound = by (int_lt i hi) refl
         where
           last_in : block P u ≡ h
           last_in =
-              let c : IsLoopOf (rows P) n f.head = record { switches = w; last = u; within = (f.loop).within; node = (f.loop).node } in
+              let c : IsLoopOf (rows P) n f.head =
+              record { switches = w; last = u; within = (f.loop).within; node = (f.loop).node } in
               let m = loop_by known c in
               ap (block P) (same_loop known c m).last ∙ ((m.all).last_is).block ∙ for_head f
 
@@ -128,7 +139,8 @@ module _ (S : Source) (known : IsKnown S.checked) (number : ℕ → ℕ → ℕ)
 
           last_low : u < length (rows P)
           last_low =
-              let c : IsLoopOf (rows P) n f.head = record { switches = w; last = u; within = (f.loop).within; node = (f.loop).node } in
+              let c : IsLoopOf (rows P) n f.head =
+              record { switches = w; last = u; within = (f.loop).within; node = (f.loop).node } in
               let m = loop_by known c in
               omega (arith, (same_loop known c m).last, last_within P known f.head m)
 
@@ -140,34 +152,45 @@ module _ (S : Source) (known : IsKnown S.checked) (number : ℕ → ℕ → ℕ)
 
           by : (c : Truth) → int_lt i hi ≡ c → IsTurn S (turn_at (below p (place P q) (suc k)) h)
           by true less =
-              index_has f.index (stands_in number main_activation P x h index_in) (subst (λ m. Holds S (Has (below p (place P m) (suc k)) (place P x) (value.Int (i +ℤ pos 1)))) row
+              index_has f.index (stands_in number main_activation P x h index_in)
+              (subst (λ m. Holds S (Has (below p (place P m) (suc k)) (place P x) (value.Int (i +ℤ pos 1)))) row
               (holds_by S _ _ (index_counts p k f less) (has, (bound, tt))))
           by false past =
-              something_on last_low (expression_thing (node P u) last_is) (stands_in number main_activation P u h last_in) (subst (λ m. Holds S (On (below p (place P m) (suc k)) (place P u))) row
+              something_on last_low (expression_thing (node P u) last_is)
+              (stands_in number main_activation P u h last_in)
+              (subst (λ m. Holds S (On (below p (place P m) (suc k)) (place P u))) row
               (holds_by S _ _ (last_on p (suc k) f.loop (facts.by_index k f past)) (has, (bound, tt))))
 
       -- a loop that goes on in an iteration: its predicate is On in the next one, or it has counted on
       goes_on : {p : Path} {k : ℕ} → GoesSo S q w p k true → IsTurn S (turn_at (below p (place P q) (suc k)) h)
       goes_on {p} {k} x = by refl x.goes x.holds
         where
-          by : {n j : ℕ} {fs : List Fact} → n ≡ q → GoesOn S n w p j true fs → Every (Holds S) fs → IsTurn S (turn_at (below p (place P q) (suc j)) h)
+          by : {n j : ℕ} {fs : List Fact} → n ≡ q → GoesOn S n w p j true fs → Every (Holds S) fs
+              → IsTurn S (turn_at (below p (place P q) (suc j)) h)
           by {n} row (by_predicate {t = t} j stands) holds =
               let z = test_at known (stands.switches).within (of_turns (stands.switches).node) in
               let expression = z.expression stands.predicate in
               let there = region_of known z.within (λ e. true_false (sym expression ∙ ap is_expression e)) in
-              let in_it : block P t ≡ h = sym there.block ∙ ap (λ (r : Region). block P r.head) (z.region ∙ switches_region P known h l) ∙ head_block P known h l in
-              something_on z.within (expression_thing (node P t) expression) (stands_in number main_activation P t h in_it)
-              (subst (λ m. Holds S (On (below p (place P m) (suc j)) (place P t))) row (holds_by S _ _ (turn_on p j stands) holds))
+              let in_it : block P t ≡ h =
+              sym there.block ∙ ap (λ (r : Region). block P r.head) (z.region ∙ switches_region P known h l)
+              ∙ head_block P known h l in
+              something_on z.within (expression_thing (node P t) expression)
+              (stands_in number main_activation P t h in_it)
+              (subst (λ m. Holds S (On (below p (place P m) (suc j)) (place P t))) row
+              (holds_by S _ _ (turn_on p j stands) holds))
           by row (by_bounds f le) holds = counts_on p 0 f row (holds_by S _ _ (index_begins f le) holds) (holds.1.1.0)
-          by row (facts.by_index j f less) holds = counts_on p (suc j) f row (holds_by S _ _ (index_counts p j f less) holds) (holds.1.0)
+          by row (facts.by_index j f less) holds =
+              counts_on p (suc j) f row (holds_by S _ _ (index_counts p j f less) holds) (holds.1.0)
 
     -- the first iteration of a loop
-    by_first : {a : Activation} {n : ℕ} {c : Context} {p : Path} → n < length (rows P) → node P n ≡ Start → (l : LoopOf P (n + 1)) → LoopKind P l.all
-        → Live S number run a (region P n) → Opens S number run a n c → Live S number run (at_iteration c 0) (top (n + 1))
-        → PathOf S number run (at_iteration c 0) p → Pays (at_iteration c 0) p
+    by_first : {a : Activation} {n : ℕ} {c : Context} {p : Path} → n < length (rows P) → node P n ≡ Start
+        → (l : LoopOf P (n + 1)) → LoopKind P l.all → Live S number run a (region P n) → Opens S number run a n c
+        → Live S number run (at_iteration c 0) (top (n + 1)) → PathOf S number run (at_iteration c 0) p
+        → Pays (at_iteration c 0) p
     by_first {c = c} within is l (plain none test turn first) live opened here path =
         let z = test_at known (switches_within P known _ l) (of_turns (switches_node P known _ l)) in
-        by_row z.within test (subst (Live S number run (at_iteration c 0)) (sym (z.region ∙ switches_region P known _ l)) here) path
+        by_row z.within test
+        (subst (Live S number run (at_iteration c 0)) (sym (z.region ∙ switches_region P known _ l)) here) path
     by_first {a} {n} {c} within is l (counted k) live opened here path =
         let h = n + 1 in
         let start : n ≡ h - 1 = omega arith in
@@ -180,31 +203,37 @@ module _ (S : Source) (known : IsKnown S.checked) (number : ℕ → ℕ → ℕ)
         in_loop l here (loop_begins (for_stands P known h l k) (sym (for_head l (for_stands P known h l k))) on
         (one_path seats path (entered_path 0 within (of_loop is) opened up.1) ∙ ap (λ e. below up.0 e 0) place_is))
 
-    by_next : {c : Context} {k n e : ℕ} {p : Path} → n < length (rows P) → node P n ≡ Switches e → Live S number run (at_iteration c k) (region P n)
-        → GoesAt S number run (at_iteration c k) n true → Live S number run (at_iteration c (suc k)) (region P n)
+    by_next : {c : Context} {k n e : ℕ} {p : Path} → n < length (rows P) → node P n ≡ Switches e
+        → Live S number run (at_iteration c k) (region P n) → GoesAt S number run (at_iteration c k) n true
+        → Live S number run (at_iteration c (suc k)) (region P n)
         → PathOf S number run (at_iteration c (suc k)) p → Pays (at_iteration c (suc k)) p
     by_next {c} {k} {n} {e} {p} within is live goes here path =
         let h = block P n in
         let l = loop_of_row known (Switches e) within is refl in
         let same = (region_of known within (λ z. (let bad : Switches e ≡ Program = sym is ∙ z in cc))).block in
-        let there = subst (InLoop S known number run (at_iteration c k)) same (live_loop S known number run live (ap (node P) same ∙ l.head)) in
+        let there =
+        subst (InLoop S known number run (at_iteration c k)) same
+        (live_loop S known number run live (ap (node P) same ∙ l.head)) in
         let way = loop_path S known number run seats l there goes.path_of in
         let z = (known.table).switches_of n e within is in
         let switches : n ≡ (l.the).switches = sym z.2 ∙ (same_loop known z.1 l).switches in
         let so = loop_goes S known l {q = way.path} way.is (subst (λ m. Goes S goes.path m true) switches goes.goes) in
         let one = one_path seats path (next_path S known number run l there way (suc k)) in
-        in_loop l (subst (Live S number run (at_iteration c (suc k))) ((known.table).at_top n within (ap is_top is)) here)
+        in_loop l
+        (subst (Live S number run (at_iteration c (suc k))) ((known.table).at_top n within (ap is_top is)) here)
         (subst (λ x. IsTurn S (turn_at x h)) (sym one) (goes_on l so))
 
     pub pays : {a : Activation} {r : Region} {p : Path} → Live S number run a r → PathOf S number run a p → Pays a p
     pays at_start path = by_body known.main at_start path
     pays (on_side within tests live says goes) path = pays live path
-    pays (entered {n = n} within (of_call is) live opened) path = by_body (call_at known within is).def (entered within (of_call is) live opened) path
+    pays (entered {n = n} within (of_call is) live opened) path =
+        by_body (call_at known within is).def (entered within (of_call is) live opened) path
     pays (entered within (of_loop is) live opened) path =
         let l = loop_of_start known within is in
         by_first within is l (kind_is P known _ l) live opened (entered within (of_loop is) live opened) path
     pays (again within is live says goes) path = by_next within is live goes (again within is live says goes) path
 
     -- so each of its paths is active
-    pub active : {a : Activation} {r : Region} {p : Path} → Live S number run a r → PathOf S number run a p → IsActive S p
+    pub active : {a : Activation} {r : Region} {p : Path} → Live S number run a r → PathOf S number run a p
+        → IsActive S p
     active live path = active_by (pays live path).turn

@@ -1,5 +1,6 @@
 -- The stamps of a run: none is greater than the number of its events.
-use Rattle.std.proofs.Common.{◌≡◌, ◌⊎◌, inl, inr, ℕ, zero, suc, ◌+◌, ◌-◌, ◌^◌, ◌≤◌, ◌<◌, Bool, true, false, List, [], ◌∷◌, ◌++◌, length, Some}
+use Rattle.std.proofs.Common.{◌≡◌, ◌⊎◌, inl, inr, ℕ, zero, suc, ◌+◌, ◌-◌, ◌^◌, ◌≤◌, ◌<◌, Bool, true, false, List, []}
+use Rattle.std.proofs.Common.{◌∷◌, ◌++◌, length, Some}
 use Rattle.std.proofs.Common.{set, replicate, slice_get, refl, ap, subst, ◌∙◌, arith, length-append, length-set}
 use Rattle.std.specs.Prelude.{◌==◌}
 use Rattle.std.specs.List.{filter, remove}
@@ -27,18 +28,24 @@ use Rattle.id_runs.proofs.Runs.{reached}
 -- ---- how many events there are
 
 -- where one element has an event more, so have all
-pub events_more : (es : List State) (n : ℕ) (e e' : State) → slice_get es n ≡ Some e → length e'.events ≡ suc (length e.events)
-    → length (events_of (set es n e')) ≡ suc (length (events_of es))
+pub events_more : (es : List State) (n : ℕ) (e e' : State) → slice_get es n ≡ Some e
+    → length e'.events ≡ suc (length e.events) → length (events_of (set es n e')) ≡ suc (length (events_of es))
 events_more [] n e e' at more = cc
 events_more (y ∷ es) zero e e' at more =
     let is : y ≡ e = cc in
     let here : length y.events ≡ length e.events = ap (λ (z : State). length z.events) is in
     omega (arith, length-append e'.events (events_of es), length-append y.events (events_of es), here, more)
 events_more (y ∷ es) (suc n) e e' at more =
-    omega (arith, length-append y.events (events_of (set es n e')), length-append y.events (events_of es), events_more es n e e' at more)
+    omega (
+      arith,
+      length-append y.events (events_of (set es n e')),
+      length-append y.events (events_of es),
+      events_more es n e e' at more,
+    )
 
 -- one element has no more than all
-pub events_few : (es : List State) (n : ℕ) (e : State) → slice_get es n ≡ Some e → length e.events ≤ length (events_of es)
+pub events_few : (es : List State) (n : ℕ) (e : State) → slice_get es n ≡ Some e
+    → length e.events ≤ length (events_of es)
 events_few [] n e at = cc
 events_few (y ∷ es) zero e at =
     let is : y ≡ e = cc in
@@ -47,7 +54,8 @@ events_few (y ∷ es) zero e at =
 events_few (y ∷ es) (suc n) e at = omega (arith, length-append y.events (events_of es), events_few es n e at)
 
 -- a step is one event more
-pub one_more : (g : Parts) (n : ℕ) (e : State) (m : Message) → length (state_after g n e m).events ≡ suc (length e.events)
+pub one_more : (g : Parts) (n : ℕ) (e : State) (m : Message)
+    → length (state_after g n e m).events ≡ suc (length e.events)
 one_more g n e m = simp length-append (omega arith)
 
 -- ---- stamps
@@ -75,7 +83,8 @@ block_stamp (b ∷ bs) vs m (inl e) = ap (λ (z : Message). z.stamp) e
 block_stamp (b ∷ bs) vs m (inr (inl e)) = ap (λ (z : Message). z.stamp) e
 block_stamp (b ∷ bs) vs m (inr (inr h)) = input_stamp 2 b.entries vs m h
 
-sent_stamp : (n position stamp k : ℕ) (xs : List Payload) (m : Message) → Among m (numbered n position stamp k xs) → m.stamp ≡ stamp
+sent_stamp : (n position stamp k : ℕ) (xs : List Payload) (m : Message) → Among m (numbered n position stamp k xs)
+    → m.stamp ≡ stamp
 sent_stamp n position stamp k [] m h = absurd h
 sent_stamp n position stamp k (x ∷ xs) m (inl e) = ap (λ (z : Message). z.stamp) e
 sent_stamp n position stamp k (x ∷ xs) m (inr h) = sent_stamp n position stamp (k + 1) xs m h
@@ -105,24 +114,34 @@ module _ (g : Parts) (vs : List Constant) (count : ℕ) where
       flight = flight;
     }
       where
-        elements : (i : ℕ) (x : State) → slice_get (set s.elements (route_of m.payload count) (state_after g (route_of m.payload count) e m)) i ≡ Some x
-            → x.stamp ≤ length (events_of (set s.elements (route_of m.payload count) (state_after g (route_of m.payload count) e m)))
-        elements i x there = by (slice_get-set s.elements (route_of m.payload count) i (state_after g (route_of m.payload count) e m) x there)
+        elements : (i : ℕ) (x : State)
+            → slice_get (set s.elements (route_of m.payload count) (state_after g (route_of m.payload count) e m)) i
+            ≡ Some x → x.stamp ≤ length
+            (events_of (set s.elements (route_of m.payload count) (state_after g (route_of m.payload count) e m)))
+        elements i x there =
+            by (slice_get-set s.elements (route_of m.payload count) i (state_after g (route_of m.payload count) e m) x
+            there)
           where
-            by : ((i ≡ route_of m.payload count) × (x ≡ state_after g (route_of m.payload count) e m)) ⊎ (slice_get s.elements i ≡ Some x)
-                → x.stamp ≤ length (events_of (set s.elements (route_of m.payload count) (state_after g (route_of m.payload count) e m)))
-            by (inl is) = let same : x.stamp ≡ next_stamp e m = ap (λ (z : State). z.stamp) is.1 in omega (arith, more, stamp, same)
+            by : ((i ≡ route_of m.payload count) × (x ≡ state_after g (route_of m.payload count) e m))
+                ⊎ (slice_get s.elements i ≡ Some x)
+                → x.stamp ≤ length
+                (events_of (set s.elements (route_of m.payload count) (state_after g (route_of m.payload count) e m)))
+            by (inl is) =
+                let same : x.stamp ≡ next_stamp e m =
+                ap (λ (z : State). z.stamp) is.1 in omega (arith, more, stamp, same)
             by (inr old) = omega (arith, more, h.elements i x old)
 
         flight : (x : Message) → Among x (remove s.flight k ++ outputs_of g (route_of m.payload count) e m)
-            → x.stamp ≤ length (events_of (set s.elements (route_of m.payload count) (state_after g (route_of m.payload count) e m)))
+            → x.stamp ≤ length
+            (events_of (set s.elements (route_of m.payload count) (state_after g (route_of m.payload count) e m)))
         flight x there = elim (Among-either x (remove s.flight k) (outputs_of g (route_of m.payload count) e m) there) [
           | inl old ↦ omega (arith, more, h.flight x (Among-from_remove x s.flight k old))
           | inr new ↦ omega (
             arith,
             more,
             stamp,
-            sent_stamp (route_of m.payload count) (length e.events) (next_stamp e m) 0 (outcome_of g (route_of m.payload count) e m).sends x new,
+            sent_stamp (route_of m.payload count) (length e.events) (next_stamp e m) 0
+                (outcome_of g (route_of m.payload count) e m).sends x new,
           )
         ]
 
@@ -165,24 +184,30 @@ module _ {A : Type 0} where
 pub AreStamped-same : (count : ℕ) (s w : World) → IsSameBut s w → AreStamped count s → AreStamped count w
 AreStamped-same count s w same h = record {
   many = subst (λ (es : List State). length es ≡ count) same.elements h.many;
-  elements = subst (λ (es : List State). (n : ℕ) (e : State) → slice_get es n ≡ Some e → e.stamp ≤ length (events_of es)) same.elements h.elements;
-  flight = λ m there. subst (λ (es : List State). m.stamp ≤ length (events_of es)) same.elements (h.flight m (also_among same.flight m there));
+  elements =
+      subst (λ (es : List State). (n : ℕ) (e : State) → slice_get es n ≡ Some e
+      → e.stamp ≤ length (events_of es)) same.elements h.elements;
+  flight = λ m there. subst (λ (es : List State). m.stamp ≤ length (events_of es)) same.elements
+      (h.flight m (also_among same.flight m there));
 }
 
 -- ---- the end of stamps
 
 -- where no stamp is left, there were as many events as stamps
-pub ended_late : (count : ℕ) (s : World) (n : ℕ) (e : State) (m : Message) → AreStamped count s → slice_get s.elements n ≡ Some e → Among m s.flight
-    → is_ended e m ≡ true → 2 ^ 64 - 1 ≤ length (events_of s.elements)
+pub ended_late : (count : ℕ) (s : World) (n : ℕ) (e : State) (m : Message) → AreStamped count s
+    → slice_get s.elements n ≡ Some e → Among m s.flight → is_ended e m ≡ true
+    → 2 ^ 64 - 1 ≤ length (events_of s.elements)
 ended_late count s n e m h at there ended = by (or_cases (e.stamp == 2 ^ 64 - 1) (m.stamp == 2 ^ 64 - 1) ended)
   where
-    by : ((e.stamp == 2 ^ 64 - 1) ≡ true) ⊎ ((m.stamp == 2 ^ 64 - 1) ≡ true) → 2 ^ 64 - 1 ≤ length (events_of s.elements)
+    by : ((e.stamp == 2 ^ 64 - 1) ≡ true) ⊎ ((m.stamp == 2 ^ 64 - 1) ≡ true)
+        → 2 ^ 64 - 1 ≤ length (events_of s.elements)
     by (inl k) = omega (arith, eqb-true e.stamp (2 ^ 64 - 1) k, h.elements n e at)
     by (inr k) = omega (arith, eqb-true m.stamp (2 ^ 64 - 1) k, h.flight m there)
 
 -- so where there were fewer, one is left
-pub ended_not : (count : ℕ) (s : World) (n : ℕ) (e : State) (m : Message) → AreStamped count s → slice_get s.elements n ≡ Some e → Among m s.flight
-    → length (events_of s.elements) < 2 ^ 64 - 1 → is_ended e m ≡ false
+pub ended_not : (count : ℕ) (s : World) (n : ℕ) (e : State) (m : Message) → AreStamped count s
+    → slice_get s.elements n ≡ Some e → Among m s.flight → length (events_of s.elements) < 2 ^ 64 - 1
+    → is_ended e m ≡ false
 ended_not count s n e m h at there few = by (is_ended e m) refl
   where
     by : (b : Bool) → is_ended e m ≡ b → b ≡ false

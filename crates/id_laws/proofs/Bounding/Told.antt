@@ -11,7 +11,8 @@ use Rattle.id_runs.specs.Events.{Event}
 use Rattle.id_runs.specs.Keys.{Key, AtPort, ByFetch, ByStore, key_of}
 use Rattle.id_laws.specs.Activations.{Live, at_start, on_side, entered, again, ReturnsTo, to_answer, to_row}
 use Rattle.id_laws.specs.Topics.{Topic, Turned, ValueOf, NameIn, TestOf, ResultOf, WayBack, ContextOf, CellOf, Nothing}
-use Rattle.id_laws.specs.Topics.{SaidOf, BoundIn, IndexOf, FlagOf, SaidIndex, FirstIndex, FirstFlag, SaidFirst, NextIndex, NextFlag, SaidNext, LastIndex}
+use Rattle.id_laws.specs.Topics.{SaidOf, BoundIn, IndexOf, FlagOf, SaidIndex, FirstIndex, FirstFlag, SaidFirst}
+use Rattle.id_laws.specs.Topics.{NextIndex, NextFlag, SaidNext, LastIndex}
 use Rattle.id_laws.specs.Topics.{AndOne, GoesFurther}
 use Rattle.id_laws.specs.Topics.{Tells, Told, topic_at}
 use Rattle.id_laws.proofs.Rows.Tokens.{token_is}
@@ -35,7 +36,8 @@ module _ (S : Source) (number : ℕ → ℕ → ℕ) (run : List Event) where
   first_live (again within is live says goes) = first_live live
 
   -- and so is one whose block returns somewhere
-  return_live : {c : Context} {h : ℕ} {a : Activation} {n : ℕ} → ReturnsTo S number run c h a n → IsLive (at_iteration c 0)
+  return_live : {c : Context} {h : ℕ} {a : Activation} {n : ℕ} → ReturnsTo S number run c h a n
+      → IsLive (at_iteration c 0)
   return_live to_answer = (_, at_start)
   return_live (to_row within begins live opened) = (_, entered within begins live opened)
 

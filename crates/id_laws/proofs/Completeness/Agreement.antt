@@ -18,12 +18,14 @@ use Rattle.id_source.specs.Sources.{constant_kind}
 use Rattle.id_build.specs.Rows.{binary_op, port_of}
 
 -- each operator of the language is made as one of the machine that comes to the same, on any values
-pub agree_unary : (o : UnaryOp) (c : Constant) (t : Tag) (f : Fresh) → fired (Unary o) t (One (constant_value c)) f ≡ fired_by (result_of_unary o c)
+pub agree_unary : (o : UnaryOp) (c : Constant) (t : Tag) (f : Fresh)
+    → fired (Unary o) t (One (constant_value c)) f ≡ fired_by (result_of_unary o c)
 agree_unary o (Int n) t f = refl
 agree_unary o (Bool b) t f = refl
 
 agree_binary : (o : BinaryOp) (c d : Constant) (t : Tag) (f : Fresh)
-    → fired (Binary (binary_op o (port_of (constant_kind c)))) t (Two (constant_value c) (constant_value d)) f ≡ fired_by (result_of_binary o c d)
+    → fired (Binary (binary_op o (port_of (constant_kind c)))) t (Two (constant_value c) (constant_value d)) f
+    ≡ fired_by (result_of_binary o c d)
 agree_binary (class.Arithmetic o) (Int a) (Int b) t f = refl
 agree_binary (class.Arithmetic o) (Int a) (Bool b) t f = refl
 agree_binary (class.Arithmetic o) (Bool a) (Int b) t f = refl
@@ -64,4 +66,5 @@ agree_binary (class.Logic Or) (Bool a) (Bool b) t f = refl
 -- `==` and `<>` are made by the kind of the ports that take the left operand's value
 pub agree_at : (o : BinaryOp) (c d : Constant) (t : Tag) (f : Fresh) (k : PortKind) → k ≡ port_of (constant_kind c)
     → fired (Binary (binary_op o k)) t (Two (constant_value c) (constant_value d)) f ≡ fired_by (result_of_binary o c d)
-agree_at o c d t f k e = ap (λ z. fired (Binary (binary_op o z)) t (Two (constant_value c) (constant_value d)) f) e ∙ agree_binary o c d t f
+agree_at o c d t f k e =
+    ap (λ z. fired (Binary (binary_op o z)) t (Two (constant_value c) (constant_value d)) f) e ∙ agree_binary o c d t f

@@ -30,8 +30,8 @@ use Rattle.id_laws.specs.Topics.{Named, StandsFor, number_stands, truth_stands, 
 use Rattle.id_laws.proofs.Rows.Assumed.{IsKnown}
 use Rattle.id_laws.proofs.Validity.PortsTake.{Takes, same_kinds, takes_constant}
 
-stands_is : {S : Source} {number : ℕ → ℕ → ℕ} {run : List Event} {w : Value} {v : SourceValue} (c : Constant) → StandsFor S number run w v → v ≡ value_of c
-    → w ≡ constant_value c
+stands_is : {S : Source} {number : ℕ → ℕ → ℕ} {run : List Event} {w : Value} {v : SourceValue} (c : Constant)
+    → StandsFor S number run w v → v ≡ value_of c → w ≡ constant_value c
 stands_is (constants.Int m) (number_stands n) e = let same : n ≡ m = cc in ap (λ z. value.Int z) same
 stands_is (constants.Int m) (truth_stands b) e = cc
 stands_is (constants.Int m) (name_stands s x named) e = cc
@@ -40,8 +40,8 @@ stands_is (constants.Bool d) (truth_stands b) e = let same : b ≡ d = cc in ap 
 stands_is (constants.Bool d) (name_stands s x named) e = cc
 
 -- what stands for a constant is its token's value
-pub stands_constant : {S : Source} {number : ℕ → ℕ → ℕ} {run : List Event} {w : Value} (c : Constant) → StandsFor S number run w (value_of c)
-    → w ≡ constant_value c
+pub stands_constant : {S : Source} {number : ℕ → ℕ → ℕ} {run : List Event} {w : Value} (c : Constant)
+    → StandsFor S number run w (value_of c) → w ≡ constant_value c
 stands_constant c h = stands_is c h refl
 
 -- the ports that take arrays of its kind take a structure
@@ -53,23 +53,26 @@ nested_is : {b c : Truth} {i j k l : ℕ} → Array b i j ≡ Array c k l → b 
 nested_is e = cc
 
 -- a name is of the kind of its structure
-pub named_kind : {S : Source} {number : ℕ → ℕ → ℕ} {run : List Event} {s : Structure} {x : Site} {o : Option Kind} → IsKnown S.checked
-    → Named S number run s x → IsOfKind S.checked (source.Name x) o → o ≡ Some (array_kind s.nested)
+pub named_kind : {S : Source} {number : ℕ → ℕ → ℕ} {run : List Event} {s : Structure} {x : Site} {o : Option Kind}
+    → IsKnown S.checked → Named S number run s x → IsOfKind S.checked (source.Name x) o → o ≡ Some (array_kind s.nested)
 named_kind {S} known h is =
-    let row = (known.apart).apart is.row h.row (is.stands).within h.within (ap is_thing (is.stands).node) (ap is_thing h.node) (sym is.place ∙ h.place) in
+    let row =
+    (known.apart).apart is.row h.row (is.stands).within h.within (ap is_thing (is.stands).node) (ap is_thing h.node)
+    (sym is.place ∙ h.place) in
     is.kind ∙ ap (λ b. Some (array_kind b)) (nested_is (sym (is.stands).node ∙ ap (node S.checked) row ∙ h.node))
 
 -- a value is of the kind of the port that takes it
-pub value_fits : {S : Source} {number : ℕ → ℕ → ℕ} {run : List Event} {w : Value} {v : SourceValue} → IsKnown S.checked → StandsFor S number run w v
-    → (k : PortKind) → Takes S.checked v k → same_kind (kind_of w) k ≡ true
+pub value_fits : {S : Source} {number : ℕ → ℕ → ℕ} {run : List Event} {w : Value} {v : SourceValue} → IsKnown S.checked
+    → StandsFor S number run w v → (k : PortKind) → Takes S.checked v k → same_kind (kind_of w) k ≡ true
 value_fits {S} known (number_stands n) k e = ap (same_kind kinds.Int) (takes_constant S.checked (constants.Int n) e)
 value_fits {S} known (truth_stands b) k e = ap (same_kind kinds.Bool) (takes_constant S.checked (constants.Bool b) e)
 value_fits known (name_stands s x named) k e =
-    ap (same_kind (structure_kind s.nested)) (e.2 ∙ ap port_of (same_kinds (named_kind known named e.1))) ∙ made_fits s.nested
+    ap (same_kind (structure_kind s.nested)) (e.2 ∙ ap port_of (same_kinds (named_kind known named e.1)))
+    ∙ made_fits s.nested
 
 -- a value goes through a label for values of its kind
-pub merged : {S : Source} {number : ℕ → ℕ → ℕ} {run : List Event} {w : Value} {v : SourceValue} → IsKnown S.checked → StandsFor S number run w v
-    → (k : PortKind) → Takes S.checked v k
+pub merged : {S : Source} {number : ℕ → ℕ → ℕ} {run : List Event} {w : Value} {v : SourceValue} → IsKnown S.checked
+    → StandsFor S number run w v → (k : PortKind) → Takes S.checked v k
     → cond (same_kind (kind_of w) k) (Out w) Nothing ≡ Out w
 merged {w = w} known h k e = ap (λ z. cond z (Out w) Nothing) (value_fits known h k e)
 
@@ -77,7 +80,8 @@ no_truth : true ≡ false → ⊥
 no_truth h = cc
 
 -- a row that is no `next` and no index is its own label's
-pub label_plain : (P : Checked) (n : ℕ) (m : Node) → node P n ≡ m → is_next m ≡ false → is_index m ≡ false → label P n ≡ n
+pub label_plain : (P : Checked) (n : ℕ) (m : Node) → node P n ≡ m → is_next m ≡ false → is_index m ≡ false
+    → label P n ≡ n
 label_plain P n (Next x k o v) is h i = absurd (no_truth h)
 label_plain P n (Index x) is h i = absurd (no_truth i)
 label_plain P n _ is h i = ap (label_by (block P n) n) is
@@ -96,7 +100,7 @@ pub gives_out : {o : Outcome} {c : Constant} → o ≡ Gives c → fired_by o �
 gives_out e = ap fired_by e
 
 -- a value of its kind goes into the context
-pub sent_in : {S : Source} {number : ℕ → ℕ → ℕ} {run : List Event} {w : Value} {v : SourceValue} → IsKnown S.checked → StandsFor S number run w v
-    → (k : PortKind) (u : Tag) → Takes S.checked v k
+pub sent_in : {S : Source} {number : ℕ → ℕ → ℕ} {run : List Event} {w : Value} {v : SourceValue} → IsKnown S.checked
+    → StandsFor S number run w v → (k : PortKind) (u : Tag) → Takes S.checked v k
     → cond (same_kind (kind_of w) k) (Sent u w) Nothing ≡ Sent u w
 sent_in {w = w} known h k u e = ap (λ z. cond z (Sent u w) Nothing) (value_fits known h k e)

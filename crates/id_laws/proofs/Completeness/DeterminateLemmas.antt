@@ -2,7 +2,8 @@
 use Rattle.std.proofs.Common.{◌≡◌, inl, inr, ℕ, zero, suc, ℤ, List, [], ◌∷◌, Option, None, Some, refl, sym, ap, subst}
 use Rattle.std.specs.List.{remove}
 use Rattle.std.specs.Prelude.{IsPermutation, slice_get}
-use Rattle.std.proofs.lemmas.List.Sorted.{IsPermutation-cons, IsPermutation-refl, IsPermutation-remove, IsPermutation-sym, IsPermutation-trans}
+use Rattle.std.proofs.lemmas.List.Sorted.{IsPermutation-cons, IsPermutation-refl, IsPermutation-remove}
+use Rattle.std.proofs.lemmas.List.Sorted.{IsPermutation-sym, IsPermutation-trans}
 use Rattle.std.proofs.lemmas.Option.{slice_get_within, get_or_from_slice_get}
 use Rattle.id_core.specs.Machines.{IsQuiet}
 use Rattle.id_core.specs.Observed as shown
@@ -34,7 +35,8 @@ AllDiffer-remove (x ∷ xs) zero d = d.1
 AllDiffer-remove (x ∷ xs) (suc k) d = (λ h. d.0 (Among-from_remove x xs k h), AllDiffer-remove xs k d.1)
 
 -- and what was taken out is not left
-not_left : {A : Type 0} (x : A) (xs : List A) (k : ℕ) → slice_get xs k ≡ Some x → AllDiffer xs → Among x (remove xs k) → ⊥
+not_left : {A : Type 0} (x : A) (xs : List A) (k : ℕ) → slice_get xs k ≡ Some x → AllDiffer xs → Among x (remove xs k)
+    → ⊥
 not_left x [] zero e d h = h
 not_left x [] (suc k) e d h = h
 not_left {A = A} x (y ∷ xs) zero e d h =
@@ -47,15 +49,17 @@ not_left {A = A} x (y ∷ xs) (suc k) e d (inl p) =
 not_left x (y ∷ xs) (suc k) e d (inr h) = not_left x xs k e d.1 h
 
 -- the first of a list stands in the other: the rests have the same members
-IsPermutation-taken : {A : Type 0} (x : A) (xs ys : List A) (k : ℕ) → slice_get ys k ≡ Some x → IsPermutation xs (remove ys k) → IsPermutation (x ∷ xs) ys
+IsPermutation-taken : {A : Type 0} (x : A) (xs ys : List A) (k : ℕ) → slice_get ys k ≡ Some x
+    → IsPermutation xs (remove ys k) → IsPermutation (x ∷ xs) ys
 IsPermutation-taken x xs ys k e rest =
     IsPermutation-trans (x ∷ xs) (x ∷ remove ys k) ys
     (IsPermutation-cons x xs (remove ys k) rest)
-    (IsPermutation-sym ys (x ∷ remove ys k) (IsPermutation-remove ys k x (slice_get_within ys k x e) (sym (get_or_from_slice_get ys k x x e))))
+    (IsPermutation-sym ys (x ∷ remove ys k)
+    (IsPermutation-remove ys k x (slice_get_within ys k x e) (sym (get_or_from_slice_get ys k x x e))))
 
 -- two lists in which nothing stands twice and that have the same members are one in two orders
-IsPermutation-from_members : {A : Type 0} (xs ys : List A) → AllDiffer xs → AllDiffer ys → ((x : A) → Among x xs → Among x ys)
-    → ((x : A) → Among x ys → Among x xs) → IsPermutation xs ys
+IsPermutation-from_members : {A : Type 0} (xs ys : List A) → AllDiffer xs → AllDiffer ys
+    → ((x : A) → Among x xs → Among x ys) → ((x : A) → Among x ys → Among x xs) → IsPermutation xs ys
 IsPermutation-from_members [] [] d e to from = IsPermutation-refl []
 IsPermutation-from_members [] (y ∷ ys) d e to from = absurd (from y (inl refl))
 IsPermutation-from_members {A = A} (x ∷ xs) ys d e to from = IsPermutation-taken x xs ys k at
@@ -68,7 +72,9 @@ IsPermutation-from_members {A = A} (x ∷ xs) ys d e to from = IsPermutation-tak
     at = (at-from_Among x ys (to x (inl refl))).1
 
     there : (z : A) → Among z xs → Among z (remove ys k)
-    there z h = elim (taken-or-left z x ys k at (to z (inr h))) [ inl p ↦ absurd (d.0 (let P : A → Type 0 = λ w. Among w xs in subst P p h)) | inr l ↦ l ]
+    there z h =
+        elim (taken-or-left z x ys k at (to z (inr h)))
+        [ inl p ↦ absurd (d.0 (let P : A → Type 0 = λ w. Among w xs in subst P p h)) | inr l ↦ l ]
 
     behind : (z : A) → Among z (remove ys k) → Among z (x ∷ xs) → Among z xs
     behind z l (inl p) = absurd (not_left x ys k at e (let P : A → Type 0 = λ w. Among w (remove ys k) in subst P p l))
@@ -82,7 +88,8 @@ one_answer : (S : Source) → IsCoherent S → (v w : Option SourceValue) → Is
 one_answer S c None None h k = refl
 one_answer S c None (Some w) h k = absurd (h w k)
 one_answer S c (Some v) None h k = absurd (k v h)
-one_answer S c (Some v) (Some w) h k = ap (λ z. Some z) (c.values outermost (place S.checked (main_body S.checked)) v w h k)
+one_answer S c (Some v) (Some w) h k =
+    ap (λ z. Some z) (c.values outermost (place S.checked (main_body S.checked)) v w h k)
 
 -- where nothing is among a list it is empty
 no_members : {A : Type 0} (xs : List A) → ((x : A) → Among x xs → ⊥) → xs ≡ []
@@ -100,13 +107,16 @@ module _ (S : Source) (inputs : AreInputs S.checked S.inputs) where
   same_shown r q quiet still = record {
     answer = one_answer S (coherence S a.no_fault) _ _ a.answer b.answer;
     names = IsPermutation-from_members _ _ (AllDiffer-from_map (λ (n : NameValue). site n.path n.place) _ m.names_once)
-        (AllDiffer-from_map (λ (n : NameValue). site n.path n.place) _ n.names_once) (λ x h. b.names x (m.names x h)) (λ x h. a.names x (n.names x h));
+        (AllDiffer-from_map (λ (n : NameValue). site n.path n.place) _ n.names_once) (λ x h. b.names x (m.names x h))
+        (λ x h. a.names x (n.names x h));
     structures = IsPermutation-from_members _ _ (AllDiffer-from_map (λ (x : Shape). x.name) _ m.structures_once)
         (AllDiffer-from_map (λ (x : Shape). x.name) _ n.structures_once)
         (λ x h. b.structures x (m.structures x h)) (λ x h. a.structures x (n.structures x h));
-    cells = IsPermutation-from_members _ _ (AllDiffer-from_map cell_of _ m.cells_once) (AllDiffer-from_map cell_of _ n.cells_once)
+    cells = IsPermutation-from_members _ _ (AllDiffer-from_map cell_of _ m.cells_once)
+        (AllDiffer-from_map cell_of _ n.cells_once)
         (λ x h. b.cells x (m.cells x h)) (λ x h. a.cells x (n.cells x h));
-    asks = IsPermutation-from_members _ _ (AllDiffer-from_map (λ (x : Ask). x.fetch) _ m.asks_once) (AllDiffer-from_map (λ (x : Ask). x.fetch) _ n.asks_once)
+    asks = IsPermutation-from_members _ _ (AllDiffer-from_map (λ (x : Ask). x.fetch) _ m.asks_once)
+        (AllDiffer-from_map (λ (x : Ask). x.fetch) _ n.asks_once)
         (λ x h. b.asks x (m.asks x h)) (λ x h. a.asks x (n.asks x h));
     waiting = IsPermutation-from_members _ _ (AllDiffer-from_map (λ (x : Ask). x.fetch) _ m.waiting_once)
         (AllDiffer-from_map (λ (x : Ask). x.fetch) _ n.waiting_once)

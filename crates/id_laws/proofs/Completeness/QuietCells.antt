@@ -1,5 +1,7 @@
--- A quiet run of a schemas' graph has shown each structure, each cell and each fetch of the source, and which of them wait.
-use Rattle.std.proofs.Common.{◌≡◌, inl, inr, ℕ, ℤ, Bool, true, false, cond, Option, Some, List, [], ◌∷◌, refl, sym, ◌∙◌, ap, subst, arith}
+-- A quiet run of a schemas' graph has shown each structure, each cell and each fetch of the source, and which of them
+-- wait.
+use Rattle.std.proofs.Common.{◌≡◌, inl, inr, ℕ, ℤ, Bool, true, false, cond, Option, Some, List, [], ◌∷◌, refl, sym, ◌∙◌}
+use Rattle.std.proofs.Common.{ap, subst, arith}
 use Rattle.std.specs.Prelude.{option_map}
 use Rattle.std.specs.List.{filter_map}
 use Rattle.id_value.specs.List.{Among}
@@ -66,7 +68,8 @@ use Rattle.id_laws.proofs.Paths.Sites.{one_name, put_shown, read_told, written_t
 use Rattle.id_laws.proofs.Soundness.SoundCells.{sound_waiting}
 
 -- a write that found another came to no good
-found_bad : (c : Cell) (v : Value) (w x : Tag) (b : Bool) → full_step (Write c v w) (cond b verdict.Stuck (verdict.Second x)) ≡ Went → ⊥
+found_bad : (c : Cell) (v : Value) (w x : Tag) (b : Bool)
+    → full_step (Write c v w) (cond b verdict.Stuck (verdict.Second x)) ≡ Went → ⊥
 found_bad c v w x true e = cc
 found_bad c v w x false e = cc
 
@@ -84,10 +87,12 @@ before_itself : (a : Site) → SiteBefore a a → ⊥
 before_itself a (inl h) = steps_itself a.path.steps h
 before_itself a (inr h) = omega (arith, h.1)
 
-module _ (S : Source) (g : Parts) (number : ℕ → ℕ → ℕ) (numbered : Numbered S.checked g number) (known : IsKnown S.checked)
+module _ (S : Source) (g : Parts) (number : ℕ → ℕ
+    → ℕ) (numbered : Numbered S.checked g number) (known : IsKnown S.checked)
     (inputs : AreInputs S.checked S.inputs)
     (are : AreWhole S)
-    (count : ℕ) (only : Exclusive g S.inputs count) (s : World) (run : List Event) (r : Reach g S.inputs count s run) (quiet : IsQuiet s) where
+    (count : ℕ) (only : Exclusive g S.inputs count) (s : World) (run : List Event) (r : Reach g S.inputs count s run)
+    (quiet : IsQuiet s) where
   abbrev P : Checked
   P = S.checked
 
@@ -112,7 +117,9 @@ module _ (S : Source) (g : Parts) (number : ℕ → ℕ → ℕ) (numbered : Num
 
   -- no write has found another
   pub none_found : (c : Cell) (v : Value) (w x : Tag) → WrittenBy run c v w (Second x) → ⊥
-  none_found c v w x y = found_bad c v w x (same_tag x w) (quiet_went g S.inputs count s run r quiet (Wrote y.element c v w (Second x)) y.among)
+  none_found c v w x y =
+      found_bad c v w x (same_tag x w)
+      (quiet_went g S.inputs count s run r quiet (Wrote y.element c v w (Second x)) y.among)
 
   carries : (f : Fact) → Holds S f → Carried S number run f
   carries f h = carried S g number numbered known inputs count only s run r settled none_found f h
@@ -121,10 +128,12 @@ module _ (S : Source) (g : Parts) (number : ℕ → ℕ → ℕ) (numbered : Num
   named_as = name_shown S known g number numbered count s run r backed
 
   -- where a part of what is here stands
-  site_here : {x : Site} (h : Here S number run x.path x.place) (part : ℕ) → IsPart P h.row part → is_next (node P h.row) ≡ false
-      → place_shown P (place P h.row) (node P h.row) ≡ place P h.row → site_of (tag_in h.activation (number h.row part)) ≡ x
+  site_here : {x : Site} (h : Here S number run x.path x.place) (part : ℕ) → IsPart P h.row part
+      → is_next (node P h.row) ≡ false → place_shown P (place P h.row) (node P h.row) ≡ place P h.row
+      → site_of (tag_in h.activation (number h.row part)) ≡ x
   site_here {x} h part is_part plain shows =
-      let live = subst (λ n. Live S number run h.activation (region P n)) (home_plain P h.row (node P h.row) refl plain) h.live in
+      let live =
+      subst (λ n. Live S number run h.activation (region P n)) (home_plain P h.row (node P h.row) refl plain) h.live in
       site_shown S known g number numbered count s run r backed h.activation h.row part x.path is_part live h.path_of
       ∙ (λ i. record { path = x.path; place = (shows ∙ sym h.place) i })
 
@@ -137,16 +146,24 @@ module _ (S : Source) (g : Parts) (number : ℕ → ℕ → ℕ) (numbered : Num
       let alloc = array_op S known g number numbered count s run r backed n.within n.node in
       let m = shown_made g S.inputs count s run r n.made alloc in
       let at : site_of (tag_of (m.0).message.payload) ≡ x.name =
-      ap site_of m.3 ∙ sym (ap (name_by g tag_path) (made_under g S.inputs count s run r n.made alloc)) ∙ named_as c.structure x.name n in
+      ap site_of m.3 ∙ sym (ap (name_by g tag_path) (made_under g S.inputs count s run r n.made alloc))
+      ∙ named_as c.structure x.name n in
       filter_map_has (shown.shape_of g tag_path) (events s) m.0 x m.1
-      (ap (option_map (λ (z : Structure). record { name = site_of (tag_of (m.0).message.payload); low = z.low; high = z.high })) m.2
+      (ap (option_map (λ (z : Structure). record {
+        name = site_of (tag_of (m.0).message.payload);
+        low = z.low;
+        high =
+            z.high;
+      })) m.2
       ∙ (λ i. Some (record { name = at i; low = sym c.low i; high = sym c.high i })))
 
   -- ---- cells
 
   -- what is put was written, and filled its cell
   put_written : {x y : Site} {j : ℤ} {v : SourceValue} (c : CarriedPut S number run x j v y)
-      → (ts : List Tag) × WrittenBy run (record { structure = c.structure; index = j }) c.value (tag_in (c.here).activation (number (c.here).row 0))
+      → (ts : List Tag)
+      × WrittenBy run (record { structure = c.structure; index = j }) c.value
+      (tag_in (c.here).activation (number (c.here).row 0))
       (Readers ts)
   put_written {j = j} c =
       let k : Cell = record { structure = c.structure; index = j } in
@@ -156,9 +173,11 @@ module _ (S : Source) (g : Parts) (number : ℕ → ℕ → ℕ) (numbered : Num
         | inr z ↦ absurd (none_found k c.value w z.0 (subst (WrittenBy run k c.value w) z.2 c.written))
       ]
 
-  store_here : {x y : Site} {j : ℤ} {v : SourceValue} (c : CarriedPut S number run x j v y) → site_of (tag_in (c.here).activation (number (c.here).row 0)) ≡ y
+  store_here : {x y : Site} {j : ℤ} {v : SourceValue} (c : CarriedPut S number run x j v y)
+      → site_of (tag_in (c.here).activation (number (c.here).row 0)) ≡ y
   store_here c =
-      site_here c.here 0 (part_of (c.here).within (stores c.node)) (ap is_next c.node) (ap (place_shown P (place P (c.here).row)) c.node)
+      site_here c.here 0 (part_of (c.here).within (stores c.node)) (ap is_next c.node)
+      (ap (place_shown P (place P (c.here).row)) c.node)
 
   pub cells_shown : (x : Put) → Holds S (fact.Put x) → Among x (shown.cells g s)
   cells_shown x holds =
@@ -168,20 +187,30 @@ module _ (S : Source) (g : Parts) (number : ℕ → ℕ → ℕ) (numbered : Num
       let y = put_written c in
       let held = fills run cell (cells_exact g S.inputs count s run r) k c.value w y.0 y.1 in
       let named = named_as c.structure x.name c.named in
-      filter_map_has (shown.put_of g tag_path name_of) (filled_in s) _ x (held_filled g S.inputs count s run r k c.value w held)
-      (ap (option_map (λ (u : SourceValue). record { name = name_of c.structure; index = x.index; value = u; store = site_of w }))
+      filter_map_has (shown.put_of g tag_path name_of) (filled_in s) _ x
+      (held_filled g S.inputs count s run r k c.value w held)
+      (ap (option_map (λ (u : SourceValue). record {
+        name = name_of c.structure;
+        index = x.index;
+        value = u;
+        store =
+            site_of w;
+      }))
       (stands_shown S known g number numbered count s run r backed c.stands)
       ∙ (λ i. Some (record { name = named i; index = x.index; value = x.value; store = store_here c i })))
 
   -- two stores do not put into one cell
-  pub no_second : {x a b : Site} {j : ℤ} {v w : SourceValue} → SiteBefore a b → Holds S (put x j v a) → Holds S (put x j w b) → ⊥
+  pub no_second : {x a b : Site} {j : ℤ} {v w : SourceValue} → SiteBefore a b → Holds S (put x j v a)
+      → Holds S (put x j w b) → ⊥
   no_second {x} {a} {b} {j} {v} {w} before first second =
       let c : CarriedPut S number run x j v a = carries (put x j v a) first in
       let d : CarriedPut S number run x j w b = carries (put x j w b) second in
       let same = one_name S known g number numbered count s run r backed d.named c.named refl in
       let y = put_written c in
       let z = put_written d in
-      let z' = subst (λ (q : Structure). WrittenBy run (record { structure = q; index = j }) d.value (tag_in (d.here).activation (number (d.here).row 0))
+      let z' = subst
+      (λ (q : Structure). WrittenBy run (record { structure = q; index = j }) d.value
+      (tag_in (d.here).activation (number (d.here).row 0))
       (Readers z.0)) same z.1 in
       let event = one_fill run cell (cells_exact g S.inputs count s run r) _ c.value d.value _ _ y.0 z.0 y.1 z' in
       let tags = (same_write event).1.0 in
@@ -192,12 +221,18 @@ module _ (S : Source) (g : Parts) (number : ℕ → ℕ → ℕ) (numbered : Num
   abbrev as_ask : Reader → Ask
   as_ask = shown.ask_of g tag_path name_of
 
-  fetch_here : {x y : Site} {j : ℤ} (c : CarriedAsk S number run y x j) → site_of (tag_in (c.here).activation (number (c.here).row 2)) ≡ y
+  fetch_here : {x y : Site} {j : ℤ} (c : CarriedAsk S number run y x j)
+      → site_of (tag_in (c.here).activation (number (c.here).row 2)) ≡ y
   fetch_here c =
-      site_here c.here 2 (part_of (c.here).within (gets_reply c.node)) (ap is_next c.node) (ap (place_shown P (place P (c.here).row)) c.node)
+      site_here c.here 2 (part_of (c.here).within (gets_reply c.node)) (ap is_next c.node)
+      (ap (place_shown P (place P (c.here).row)) c.node)
 
   asks_as : (x : Ask) (c : CarriedAsk S number run x.fetch x.name x.index)
-      → as_ask (record { cell = record { structure = c.structure; index = x.index }; reply = tag_in (c.here).activation (number (c.here).row 2) }) ≡ x
+      → as_ask (record {
+        cell = record { structure = c.structure; index = x.index };
+        reply =
+            tag_in (c.here).activation (number (c.here).row 2);
+      }) ≡ x
   asks_as x c = (λ i. record { fetch = fetch_here c i; name = named_as c.structure x.name c.named i; index = x.index })
 
   pub asks_shown : (x : Ask) → Holds S (fact.Ask x) → Among x (shown.asks g s)
@@ -207,7 +242,8 @@ module _ (S : Source) (g : Parts) (number : ℕ → ℕ → ℕ) (numbered : Num
       let t = tag_in (c.here).activation (number (c.here).row 2) in
       let y : Reader = record { cell = k; reply = t } in
       let h = to_record g S.inputs count s run r (Looked (c.read).element k t c.answer) (c.read).among in
-      let listed = filter_map_has (λ (u : EventView). shown.reader_in u.message.payload) (events s) h.0 y (among_events s h.0 h.1)
+      let listed =
+      filter_map_has (λ (u : EventView). shown.reader_in u.message.payload) (events s) h.0 y (among_events s h.0 h.1)
       (ap shown.reader_in (h.2).payload) in
       subst (λ z. Among z (shown.asks g s)) (asks_as x c) (Among-map as_ask y
       (filter_map (λ (u : EventView). shown.reader_in u.message.payload) (events s)) listed)
@@ -223,24 +259,29 @@ module _ (S : Source) (g : Parts) (number : ℕ → ℕ → ℕ) (numbered : Num
         | inl z ↦
             let told = written_told S known g number numbered count s run r backed z.3 in
             let named = named_as c.structure x.name c.named in
-            absurd (waits.unfilled told.value (site_of z.1) (subst (λ q. Holds S (put q x.index told.value (site_of z.1))) named
+            absurd (waits.unfilled told.value (site_of z.1)
+            (subst (λ q. Holds S (put q x.index told.value (site_of z.1))) named
             (put_shown S known g number numbered count s run r backed told)))
         | inr z ↦
-            subst (λ q. Among q (shown.waiting g s)) (asks_as x c) (Among-map as_ask y (readers_in s) (held_reader g S.inputs count s run r k z.0 t z.1 z.2))
+            subst (λ q. Among q (shown.waiting g s)) (asks_as x c)
+            (Among-map as_ask y (readers_in s) (held_reader g S.inputs count s run r k z.0 t z.1 z.2))
       ]
 
   -- and only such a one
   pub waiting_only : (x : Ask) → Among x (shown.waiting g s) → IsWaiting S x
-  waiting_only x among = record { asks = sound_waiting S known g number numbered count s run r backed x among; unfilled = unfilled }
+  waiting_only x among =
+      record { asks = sound_waiting S known g number numbered count s run r backed x among; unfilled = unfilled }
     where
       unfilled : (v : SourceValue) (b : Site) → Holds S (put x.name x.index v b) → ⊥
       unfilled v b holds =
           let c : CarriedPut S number run x.name x.index v b = carries (put x.name x.index v b) holds in
           let y = Among-from_map as_ask x (readers_in s) among in
           let held = reader_held g S.inputs count s run r y.0 y.1 in
-          let waits = waits_unfilled run cell (cells_exact g S.inputs count s run r) (y.0).cell (y.0).reply held.0 held.1 held.2 in
+          let waits =
+          waits_unfilled run cell (cells_exact g S.inputs count s run r) (y.0).cell (y.0).reply held.0 held.1 held.2 in
           let told = read_told S known g number numbered count s run r backed waits.0 in
-          let names : x.name ≡ told.name = ap (λ (z : Ask). z.name) y.2 ∙ named_as ((y.0).cell).structure told.name told.named in
+          let names : x.name ≡ told.name =
+          ap (λ (z : Ask). z.name) y.2 ∙ named_as ((y.0).cell).structure told.name told.named in
           let same = one_name S known g number numbered count s run r backed c.named told.named names in
           let index = ap (λ (z : Ask). z.index) y.2 in
           waits.1 c.value _ c.answer

@@ -1,5 +1,6 @@
 -- The labels of a schemas' graph are the instructions of binders.
-use Rattle.std.proofs.Common.{◌≡◌, ℕ, zero, suc, ◌+◌, ◌-◌, ◌≤◌, ◌<◌, length, ◌==◌, ◌&&◌, not, Bool as Truth, true, false}
+use Rattle.std.proofs.Common.{◌≡◌, ℕ, zero, suc, ◌+◌, ◌-◌, ◌≤◌, ◌<◌, length, ◌==◌, ◌&&◌, not, Bool as Truth, true}
+use Rattle.std.proofs.Common.{false}
 use Rattle.std.proofs.Common.{cond, Some, List, [], ◌∷◌, slice_get, refl, sym}
 use Rattle.std.proofs.Common.{◌∙◌, ap, arith}
 use Rattle.id_value.specs.declared.Kind.{Kind}
@@ -7,7 +8,8 @@ use Rattle.std.specs.List.{count_by}
 use Rattle.std.proofs.lemmas.Bool.Decides.{nat_tests}
 use Rattle.std.proofs.lemmas.List.Sums.{sum_by-cons}
 use Rattle.id_table.specs.declared.row.Node.{Node}
-use Rattle.id_table.specs.declared.row.Node.TheVariants.{Head, Param, Split, If, Program, Enter, Call, Binding, Start, LoopHead, Entries, Loop, Fetch}
+use Rattle.id_table.specs.declared.row.Node.TheVariants.{Head, Param, Split, If, Program, Enter, Call, Binding, Start}
+use Rattle.id_table.specs.declared.row.Node.TheVariants.{LoopHead, Entries, Loop, Fetch}
 use Rattle.id_table.specs.declared.row.Node.TheVariants.{Bounds, Carried, Count, Index}
 use Rattle.id_table.specs.Tables.{begins_block, is_binder}
 use Rattle.id_table.specs.Loops.{IsLoopOf, index_row}
@@ -24,13 +26,16 @@ use Rattle.id_desugar.specs.Ends.{end_of, next_of}
 use Rattle.id_laws.specs.Activations.{main_head, of_arms, of_call, of_loop}
 use Rattle.id_laws.specs.Topics.{of_fetch, IsPart}
 use Rattle.id_laws.proofs.Rows.Assumed.{IsKnown}
-use Rattle.id_laws.proofs.Rows.Arcs.{Does, starts, returns, enters, constant, unary, binary, turns_on, hands, joins, names, answers, doing, makes, part_of}
+use Rattle.id_laws.proofs.Rows.Arcs.{Does, starts, returns, enters, constant, unary, binary, turns_on, hands, joins}
+use Rattle.id_laws.proofs.Rows.Arcs.{names, answers, doing, makes, part_of}
 use Rattle.id_laws.proofs.Rows.Arcs.{place_shown, opens, passes, gets}
 use Rattle.id_laws.proofs.Rows.Arcs.{sends_in, gives_back, varies, takes_in, moves_on, moves_name, advances, resets}
 use Rattle.id_laws.proofs.Rows.Arcs.{gets_last, allocates, addresses, fetches, gets_reply, stores}
-use Rattle.id_laws.proofs.Rows.Arcs.{bounds_meet, begins_index, carries, meets_bound, goes_further, hands_index, has_one, adds_one}
+use Rattle.id_laws.proofs.Rows.Arcs.{bounds_meet, begins_index, carries, meets_bound, goes_further, hands_index}
+use Rattle.id_laws.proofs.Rows.Arcs.{has_one, adds_one}
 use Rattle.id_laws.proofs.Rows.LoopRows.{LoopPlace, entries_place, loop_marks, variable_at}
-use Rattle.id_laws.proofs.Rows.Loops.{LoopOf, bounds_place, carried_loop, count_at, count_loop, counted_of, has_three, index_at, index_within, loop_by, loop_of_row}
+use Rattle.id_laws.proofs.Rows.Loops.{LoopOf, bounds_place, carried_loop, count_at, count_loop, counted_of, has_three}
+use Rattle.id_laws.proofs.Rows.Loops.{index_at, index_within, loop_by, loop_of_row}
 use Rattle.id_laws.proofs.Rows.Conditionals.{conditional}
 use Rattle.id_laws.proofs.Rows.Tokens.{one_part}
 use Rattle.id_build.specs.declared.arc.Form.{Form}
@@ -41,7 +46,8 @@ use Rattle.id_laws.proofs.Rows.Calls.{call_at, enter_at}
 abbrev one_if : Truth → ℕ
 one_if b = cond b 1 0
 
-pub one_at : {A : Type 0} (p : A → Truth) (xs : List A) (i : ℕ) (x : A) → slice_get xs i ≡ Some x → p x ≡ true → 1 ≤ count_by p xs
+pub one_at : {A : Type 0} (p : A → Truth) (xs : List A) (i : ℕ) (x : A) → slice_get xs i ≡ Some x → p x ≡ true
+    → 1 ≤ count_by p xs
 one_at p [] i x at e = cc
 one_at p (y ∷ xs) zero x at e =
     let is : y ≡ x = cc in
@@ -50,8 +56,8 @@ one_at p (y ∷ xs) zero x at e =
 one_at p (y ∷ xs) (suc i) x at e = omega (arith, sum_by-cons (λ z. one_if (p z)) y xs, one_at p xs i x at e)
 
 -- two places whose things pass the test count as two
-pub two_at : {A : Type 0} (p : A → Truth) (xs : List A) (i j : ℕ) (x y : A) → slice_get xs i ≡ Some x → slice_get xs j ≡ Some y → (i ≡ j → ⊥) → p x ≡ true
-    → p y ≡ true → 2 ≤ count_by p xs
+pub two_at : {A : Type 0} (p : A → Truth) (xs : List A) (i j : ℕ) (x y : A) → slice_get xs i ≡ Some x
+    → slice_get xs j ≡ Some y → (i ≡ j → ⊥) → p x ≡ true → p y ≡ true → 2 ≤ count_by p xs
 two_at p [] i j x y at at' differ e f = cc
 two_at p (z ∷ xs) zero zero x y at at' differ e f = absurd (differ refl)
 two_at p (z ∷ xs) zero (suc j) x y at at' differ e f =
@@ -63,7 +69,11 @@ two_at p (z ∷ xs) (suc i) zero x y at at' differ e f =
     let here : one_if (p z) ≡ 1 = ap (λ w. one_if (p w)) is ∙ ap one_if f in
     omega (arith, sum_by-cons (λ w. one_if (p w)) z xs, one_at p xs i x at e)
 two_at p (z ∷ xs) (suc i) (suc j) x y at at' differ e f =
-    omega (arith, sum_by-cons (λ w. one_if (p w)) z xs, two_at p xs i j x y at at' (λ k. differ (ap (λ n. suc n) k)) e f)
+    omega (
+      arith,
+      sum_by-cons (λ w. one_if (p w)) z xs,
+      two_at p xs i j x y at at' (λ k. differ (ap (λ n. suc n) k)) e f,
+    )
 
 number_is : (m n : ℕ) → (m == n) ≡ true → m ≡ n
 number_is m n e = grind (arith, nat_tests)
@@ -82,7 +92,8 @@ pub data CarriedAs (P : Checked) (n : ℕ) : Type 0 where
   of_index : (i x : ℕ) → i < length (rows P) → node P i ≡ Index x → label P i ≡ n → CarriedAs P n
   of_loop_itself : LoopPlace P n → CarriedAs P n
 
-pub carried_as : {P : Checked} (known : IsKnown P) {n : ℕ} {k : Kind} → n < length (rows P) → node P n ≡ Carried k → CarriedAs P n
+pub carried_as : {P : Checked} (known : IsKnown P) {n : ℕ} {k : Kind} → n < length (rows P) → node P n ≡ Carried k
+    → CarriedAs P n
 carried_as {P} known {n} within is = go (n - (h + 1)) (omega (arith, x.low)) (omega (arith, x.low, x.high))
   where
     h : ℕ
@@ -110,7 +121,8 @@ carried_as {P} known {n} within is = go (n - (h + 1)) (omega (arith, x.low)) (om
     go : (j : ℕ) → n ≡ block P n + 1 + j → j < 3 → CarriedAs P n
     go zero at less =
         let first : block P n + 1 ≡ n = omega (arith, at) in
-        of_index i (x.counted).name inside (x.counted).index (ap (label_by (block P i) i) (x.counted).index ∙ ap (λ g. g + 1) index_block ∙ first)
+        of_index i (x.counted).name inside (x.counted).index (ap (label_by (block P i) i) (x.counted).index
+        ∙ ap (λ g. g + 1) index_block ∙ first)
     go (suc zero) at less =
         let here : n ≡ block P n + 2 = omega (arith, at) in
         of_loop_itself (record {
@@ -142,7 +154,8 @@ count_place {P} known {n} within is =
       place = ((l.all).place).begins n (omega (arith, at)) (omega (arith, at, z.1.turn));
     }
 
-pub bounds_at_loop : {P : Checked} (known : IsKnown P) {n a b : ℕ} → n < length (rows P) → node P n ≡ Bounds a b → LoopPlace P n
+pub bounds_at_loop : {P : Checked} (known : IsKnown P) {n a b : ℕ} → n < length (rows P) → node P n ≡ Bounds a b
+    → LoopPlace P n
 bounds_at_loop {P} known {n} {a} {b} within is =
     let z = (known.table).bounds_of n a b within is in
     let h = n + 2 in
@@ -157,7 +170,9 @@ bounds_at_loop {P} known {n} {a} {b} within is =
 label_of : (g : Parts) (n : ℕ) (i : Instr) → slice_get g.instrs n ≡ Some i → shown.is_label g n ≡ true
     → (shown.is_value_merge i.op ≡ true) × (count_by (shown.claims i.place) g.instrs ≡ 1)
 label_of g n i at e =
-    let both = both_true (shown.is_value_merge i.op) (count_by (shown.claims i.place) g.instrs == 1) (sym (ap (shown.is_label_of g) at) ∙ e) in
+    let both =
+    both_true (shown.is_value_merge i.op) (count_by (shown.claims i.place) g.instrs == 1)
+    (sym (ap (shown.is_label_of g) at) ∙ e) in
     (both.0, number_is _ 1 both.1)
 
 -- a merge is no `next`
@@ -169,11 +184,13 @@ merge_no_next _ e = cc
 pub claims_place : (p : ℕ) (i : Instr) → i.place ≡ p → shown.is_next i.op ≡ false → shown.claims p i ≡ true
 claims_place p i at other = (λ t. same_number i.place p at t && not (other t))
 
-module _ (P : Checked) (known : IsKnown P) (g : Parts) (number : ℕ → ℕ → ℕ) (numbered : Numbered P g number) (main_head_is : node P (main_head P) ≡ Head)
+module _ (P : Checked) (known : IsKnown P) (g : Parts) (number : ℕ → ℕ
+    → ℕ) (numbered : Numbered P g number) (main_head_is : node P (main_head P) ≡ Head)
     (main_within : main_head P < length (rows P)) where
   -- no other part has the place of a label, save a `next`
-  clash_by : {n j r k : ℕ} {f : Form} → (x : IsPart P n j) → shown.is_label g (number n j) ≡ true → r < length (rows P) → Does P r k f
-      → shown.is_next (op_by number f) ≡ false → place_shown P (place P r) (node P r) ≡ place_shown P (place P n) (node P n) → (number n j ≡ number r k → ⊥) → ⊥
+  clash_by : {n j r k : ℕ} {f : Form} → (x : IsPart P n j) → shown.is_label g (number n j) ≡ true → r < length (rows P)
+      → Does P r k f → shown.is_next (op_by number f) ≡ false
+      → place_shown P (place P r) (node P r) ≡ place_shown P (place P n) (node P n) → (number n j ≡ number r k → ⊥) → ⊥
   clash_by {n} {j} {r} {k} {f} x e low does other same differ =
       let part = makes low does in
       let m = numbered.made n j x.form x.place x.makes in
@@ -186,12 +203,15 @@ module _ (P : Checked) (known : IsKnown P) (g : Parts) (number : ℕ → ℕ →
       (claims_place _ h.instr (h.place ∙ same ∙ sym m_place) (ap shown.is_next h.op ∙ other)) in
       absurd (omega (arith, two, l.1))
 
-  clash : {n j r k : ℕ} {f : Form} → (x : IsPart P n j) → shown.is_label g (number n j) ≡ true → r < length (rows P) → Does P r k f
-      → shown.is_next (op_by number f) ≡ false → place_shown P (place P r) (node P r) ≡ place_shown P (place P n) (node P n) → (node P n ≡ node P r → ⊥) → ⊥
-  clash x e low does other same differ = clash_by x e low does other same (λ z. differ (ap (node P) (one_part numbered x (part_of low does) z).0))
+  clash : {n j r k : ℕ} {f : Form} → (x : IsPart P n j) → shown.is_label g (number n j) ≡ true → r < length (rows P)
+      → Does P r k f → shown.is_next (op_by number f) ≡ false
+      → place_shown P (place P r) (node P r) ≡ place_shown P (place P n) (node P n) → (node P n ≡ node P r → ⊥) → ⊥
+  clash x e low does other same differ =
+      clash_by x e low does other same (λ z. differ (ap (node P) (one_part numbered x (part_of low does) z).0))
 
   -- the merge of a fetch shares its place with what makes the address
-  reply_no_label : (n : ℕ) {t i : ℕ} → node P n ≡ Fetch t i → (part : IsPart P n 2) → shown.is_label g (number n 2) ≡ true → ⊥
+  reply_no_label : (n : ℕ) {t i : ℕ} → node P n ≡ Fetch t i → (part : IsPart P n 2)
+      → shown.is_label g (number n 2) ≡ true → ⊥
   reply_no_label n is part e =
       let within = (part.makes).within in
       clash_by part e within (addresses (of_fetch is)) refl refl
@@ -201,11 +221,13 @@ module _ (P : Checked) (known : IsKnown P) (g : Parts) (number : ℕ → ℕ →
   answer_no_label : (n : ℕ) → node P n ≡ Program → (x : IsPart P n 0) → shown.is_label g (number n 0) ≡ true → ⊥
   answer_no_label n is x e =
       clash x e main_within (starts (ap begins_block main_head_is)) refl
-      (ap (place_shown P (place P (main_head P))) main_head_is ∙ known.head_place P.main (main_head P) known.main ∙ sym (ap (place_shown P (place P n)) is))
+      (ap (place_shown P (place P (main_head P))) main_head_is ∙ known.head_place P.main (main_head P) known.main
+      ∙ sym (ap (place_shown P (place P n)) is))
       (λ z. let bad : Program ≡ Head = sym is ∙ z ∙ main_head_is in cc)
 
   -- a conditional's merge shares its place with the switch of its trigger
-  merge_no_label : (n : ℕ) {s x y : ℕ} → node P n ≡ If s x y → (part : IsPart P n 0) → shown.is_label g (number n 0) ≡ true → ⊥
+  merge_no_label : (n : ℕ) {s x y : ℕ} → node P n ≡ If s x y → (part : IsPart P n 0)
+      → shown.is_label g (number n 0) ≡ true → ⊥
   merge_no_label n {s} {x} {y} is part e =
       let c = conditional known (part.makes).within is in
       clash part e c.within (turns_on (of_arms c.node)) refl
@@ -213,16 +235,19 @@ module _ (P : Checked) (known : IsKnown P) (g : Parts) (number : ℕ → ℕ →
       (λ z. let bad : If s x y ≡ Split c.test = sym is ∙ z ∙ c.node in cc)
 
   -- a call's merge shares its place with its `enter`
-  call_no_label : (n : ℕ) {e c : ℕ} → node P n ≡ Call e c → (part : IsPart P n 0) → shown.is_label g (number n 0) ≡ true → ⊥
+  call_no_label : (n : ℕ) {e c : ℕ} → node P n ≡ Call e c → (part : IsPart P n 0) → shown.is_label g (number n 0) ≡ true
+      → ⊥
   call_no_label n {e} {c} is part l =
       let z = enter_at known (part.makes).within is in
       let begins = call_at known z.within z.node in
       clash part l z.within (opens (of_call z.node)) refl
-      (ap (place_shown P (place P e)) z.node ∙ begins.place ∙ ap (place P) z.ends ∙ sym (ap (place_shown P (place P n)) is))
+      (ap (place_shown P (place P e)) z.node ∙ begins.place ∙ ap (place P) z.ends
+      ∙ sym (ap (place_shown P (place P n)) is))
       (λ y. let bad : Call e c ≡ Enter z.name = sym is ∙ y ∙ z.node in cc)
 
   -- and so does a loop's
-  loop_no_label : (n : ℕ) {h w l : ℕ} → node P n ≡ Loop h w l → (part : IsPart P n 0) → shown.is_label g (number n 0) ≡ true → ⊥
+  loop_no_label : (n : ℕ) {h w l : ℕ} → node P n ≡ Loop h w l → (part : IsPart P n 0)
+      → shown.is_label g (number n 0) ≡ true → ⊥
   loop_no_label n {h} {w} {l} is part e =
       let c : IsLoopOf (rows P) n h = record { switches = w; last = l; within = (part.makes).within; node = is } in
       let z = loop_marks P n h c in
@@ -237,16 +262,19 @@ module _ (P : Checked) (known : IsKnown P) (g : Parts) (number : ℕ → ℕ →
       let h = x.head in
       let z = loop_marks P x.row h x.loop in
       clash part e z.head_within (starts (ap begins_block z.head_node)) refl
-      (ap (place_shown P (place P h)) z.head_node ∙ z.head_place ∙ sym x.place ∙ sym (ap (place_shown P (place P n)) is))
+      (ap (place_shown P (place P h)) z.head_node ∙ z.head_place ∙ sym x.place
+      ∙ sym (ap (place_shown P (place P n)) is))
       (λ y. let bad : Entries ≡ LoopHead (h - 1) = sym is ∙ y ∙ z.head_node in cc)
 
   -- so does what a loop carries on beside its index
-  carried_no_label : (n : ℕ) {k : Kind} → node P n ≡ Carried k → LoopPlace P n → (part : IsPart P n 0) → shown.is_label g (number n 0) ≡ true → ⊥
+  carried_no_label : (n : ℕ) {k : Kind} → node P n ≡ Carried k → LoopPlace P n → (part : IsPart P n 0)
+      → shown.is_label g (number n 0) ≡ true → ⊥
   carried_no_label n {k} is x part e =
       let h = x.head in
       let z = loop_marks P x.row h x.loop in
       clash part e z.head_within (starts (ap begins_block z.head_node)) refl
-      (ap (place_shown P (place P h)) z.head_node ∙ z.head_place ∙ sym x.place ∙ sym (ap (place_shown P (place P n)) is))
+      (ap (place_shown P (place P h)) z.head_node ∙ z.head_place ∙ sym x.place
+      ∙ sym (ap (place_shown P (place P n)) is))
       (λ y. let bad : Carried k ≡ LoopHead (h - 1) = sym is ∙ y ∙ z.head_node in cc)
 
   -- a label is the first instruction of the row that labels a binder
@@ -268,13 +296,23 @@ module _ (P : Checked) (known : IsKnown P) (g : Parts) (number : ℕ → ℕ →
 
       own : (j : ℕ) (b : Node) → node P n ≡ b → is_binder b ≡ true → label_by (block P n) n b ≡ n → j ≡ 0 → LabelOf n j
       own j b is binds same first =
-          record { binder = n; within = (x.makes).within; binds = ap is_binder is ∙ binds; is = ap (label_by (block P n) n) is ∙ same; first = first }
+          record {
+            binder = n;
+            within = (x.makes).within;
+            binds = ap is_binder is ∙ binds;
+            is =
+                ap (label_by (block P n) n) is ∙ same;
+            first = first;
+          }
 
-      at_carried : {k : Kind} → node P n ≡ Carried k → CarriedAs P n → shown.is_label g (number n 0) ≡ true → IsPart P n 0 → LabelOf n 0
-      at_carried is (of_index i z inside index same) l y = record { binder = i; within = inside; binds = ap is_binder index; is = same; first = refl }
+      at_carried : {k : Kind} → node P n ≡ Carried k → CarriedAs P n → shown.is_label g (number n 0) ≡ true
+          → IsPart P n 0 → LabelOf n 0
+      at_carried is (of_index i z inside index same) l y =
+          record { binder = i; within = inside; binds = ap is_binder index; is = same; first = refl }
       at_carried is (of_loop_itself z) l y = absurd (carried_no_label n is z y l)
 
-      go : {j : ℕ} {o : Form} → Does P n j o → shown.is_value_merge (op_by number o) ≡ true → shown.is_label g (number n j) ≡ true → IsPart P n j → LabelOf n j
+      go : {j : ℕ} {o : Form} → Does P n j o → shown.is_value_merge (op_by number o) ≡ true
+          → shown.is_label g (number n j) ≡ true → IsPart P n j → LabelOf n j
       go (starts is) k l y = cc
       go (returns is) k l y = cc
       go (enters {x = z} {k = i} is) k l y = own 0 (Param z i) is refl refl refl

@@ -28,7 +28,8 @@ module _ (P : Checked) (known : IsKnown P) (g : Parts) (number : ℕ → ℕ →
   only : (n : ℕ) → shown.is_label g n ≡ true → (b : ℕ) × IsBinder P b × (number (label P b) 0 ≡ n)
   only n e = go (slice_get g.instrs n) refl e
     where
-      go : (o : Option Instr) → slice_get g.instrs n ≡ o → shown.is_label_of g o ≡ true → (b : ℕ) × IsBinder P b × (number (label P b) 0 ≡ n)
+      go : (o : Option Instr) → slice_get g.instrs n ≡ o → shown.is_label_of g o ≡ true
+          → (b : ℕ) × IsBinder P b × (number (label P b) 0 ≡ n)
       go None at h = cc
       go (Some i) at h =
           let k = numbered.only n i at in
@@ -44,13 +45,15 @@ module _ (P : Checked) (known : IsKnown P) (g : Parts) (number : ℕ → ℕ →
   one_label b c x y e =
       let there = (label_at P b x.within x.binds).place in
       let here = (label_at P c y.within y.binds).place in
-      (known.apart).apart b c x.within y.within (binds_thing (at (rows P) b).node x.binds) (binds_thing (at (rows P) c).node y.binds)
+      (known.apart).apart b c x.within y.within (binds_thing (at (rows P) b).node x.binds)
+      (binds_thing (at (rows P) c).node y.binds)
       (sym there ∙ ap (place P) e ∙ here)
 
   -- the labels are those of the binders
   pub are_labels : AreLabels P g number
   are_labels = record {
-    each = λ b x. label_is P known g number numbered b x.within x.binds (is_value_port (unwrap_or (kind P b) kinds.Int));
+    each = λ b x. label_is P known g number numbered b x.within x.binds
+        (is_value_port (unwrap_or (kind P b) kinds.Int));
     places = λ b x. label_place P known g number numbered b x.within x.binds;
     only = only;
     apart = λ b c x y e. one_label b c x y (one_part numbered (part b x) (part c y) e).0;

@@ -57,30 +57,35 @@ begun_at {P} known {n} within (of_loop is) =
 
 as_begun : {n n' : ℕ} {m : Node} → EndsAs n m → EndsAs n' m → n ≡ n'
 as_begun {n} {n'} (as_call {c = c} is) (as_call {c = c'} is') = let both : Call n c ≡ Call n' c' = sym is ∙ is' in cc
-as_begun {n} {n'} (as_call {c = c} is) (as_loop {w = w} {l = l} is') = let bad : Call n c ≡ Loop (n' + 1) w l = sym is ∙ is' in cc
-as_begun {n} {n'} (as_loop {w = w} {l = l} is) (as_call {c = c} is') = let bad : Loop (n + 1) w l ≡ Call n' c = sym is ∙ is' in cc
+as_begun {n} {n'} (as_call {c = c} is) (as_loop {w = w} {l = l} is') =
+    let bad : Call n c ≡ Loop (n' + 1) w l = sym is ∙ is' in cc
+as_begun {n} {n'} (as_loop {w = w} {l = l} is) (as_call {c = c} is') =
+    let bad : Loop (n + 1) w l ≡ Call n' c = sym is ∙ is' in cc
 as_begun {n} {n'} (as_loop {w = w} {l = l} is) (as_loop {w = w'} {l = l'} is') =
     let both : Loop (n + 1) w l ≡ Loop (n' + 1) w' l' = sym is ∙ is' in
     let same : n + 1 ≡ n' + 1 = cc in
     omega (arith, same)
 
 -- what ends at one row has begun at one
-pub one_begun : {P : Checked} (known : IsKnown P) {n n' h h' q q' : ℕ} → n < length (rows P) → n' < length (rows P) → Begins P n h q → Begins P n' h' q'
-    → q ≡ q' → n ≡ n'
+pub one_begun : {P : Checked} (known : IsKnown P) {n n' h h' q q' : ℕ} → n < length (rows P) → n' < length (rows P)
+    → Begins P n h q → Begins P n' h' q' → q ≡ q' → n ≡ n'
 one_begun {P} known {n} {n'} within within' b b' same =
     as_begun (subst (λ z. EndsAs n (node P z)) same (begun_at known within b).ends) (begun_at known within' b').ends
 
 -- two that begin at one place are one
-pub one_begun_at : {P : Checked} (known : IsKnown P) {n n' h h' q q' : ℕ} → n < length (rows P) → n' < length (rows P) → Begins P n h q → Begins P n' h' q'
-    → place P n ≡ place P n' → n ≡ n'
+pub one_begun_at : {P : Checked} (known : IsKnown P) {n n' h h' q q' : ℕ} → n < length (rows P) → n' < length (rows P)
+    → Begins P n h q → Begins P n' h' q' → place P n ≡ place P n' → n ≡ n'
 one_begun_at {P} known {q = q} {q' = q'} within within' b b' same =
     let c = begun_at known within b in
     let d = begun_at known within' b' in
-    one_begun known within within' b b' ((known.apart).apart q q' c.within d.within c.thing d.thing (sym c.place ∙ same ∙ d.place))
+    one_begun known within within' b b'
+    ((known.apart).apart q q' c.within d.within c.thing d.thing (sym c.place ∙ same ∙ d.place))
 
 -- the one row begins one block
 pub one_head : {P : Checked} {n h q h' q' : ℕ} → Begins P n h q → Begins P n h' q' → (h ≡ h') × (q ≡ q')
 one_head (of_call is) (of_call is') = (refl, refl)
-one_head {P} {n} (of_call {x = x} is) (of_loop is') = let bad : Rattle.id_table.specs.declared.row.Node.TheVariants.Enter x ≡ Start = sym is ∙ is' in cc
-one_head {P} {n} (of_loop is) (of_call {x = x} is') = let bad : Start ≡ Rattle.id_table.specs.declared.row.Node.TheVariants.Enter x = sym is ∙ is' in cc
+one_head {P} {n} (of_call {x = x} is) (of_loop is') =
+    let bad : Rattle.id_table.specs.declared.row.Node.TheVariants.Enter x ≡ Start = sym is ∙ is' in cc
+one_head {P} {n} (of_loop is) (of_call {x = x} is') =
+    let bad : Start ≡ Rattle.id_table.specs.declared.row.Node.TheVariants.Enter x = sym is ∙ is' in cc
 one_head (of_loop is) (of_loop is') = (refl, refl)

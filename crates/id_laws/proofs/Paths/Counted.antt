@@ -9,7 +9,8 @@ use Rattle.id_table.specs.Loops.{index_row}
 use Rattle.id_check.specs.declared.checked.Checked.{Checked}
 use Rattle.id_check.specs.Programs.{region, rows}
 use Rattle.id_desugar.specs.Regions.{bound_of, handed, imports_of, nexts_of, taken}
-use Rattle.id_build.specs.Rows.{block, handed_by, home, home_by, label, label_by, name_in, node, origin, origin_of, output, same_region, slot_of}
+use Rattle.id_build.specs.Rows.{block, handed_by, home, home_by, label, label_by, name_in, node, origin, origin_of}
+use Rattle.id_build.specs.Rows.{output, same_region, slot_of}
 use Rattle.id_build.proofs.NamesSeen.{named, region_is}
 use Rattle.id_laws.specs.Activations.{of_turns}
 use Rattle.id_laws.proofs.Rows.Assumed.{IsKnown}
@@ -46,7 +47,8 @@ module _ (P : Checked) (known : IsKnown P) (h : ℕ) (x : LoopOf P h) (c : IsCou
   bound_slot : slot_of (imports_of P w) (h + 2) ≡ 0
   bound_slot =
       let first : ((h + 2) == (h + 2)) ≡ true = grind (arith, nat_tests) in
-      ap (λ bs. slot_of bs (h + 2)) bound_first ∙ ap (λ t. cond t 0 (slot_of (nexts_of P h ++ taken P h) (h + 2) + 1)) first
+      ap (λ bs. slot_of bs (h + 2)) bound_first
+      ∙ ap (λ t. cond t 0 (slot_of (nexts_of P h ++ taken P h) (h + 2) + 1)) first
 
   no_top : (b : Truth) → same_region (region P (home P (h + 2))) (arm_at w b) ≡ false
   no_top b = go (same_region (region P (home P (h + 2))) (arm_at w b)) refl
@@ -54,7 +56,9 @@ module _ (P : Checked) (known : IsKnown P) (h : ℕ) (x : LoopOf P h) (c : IsCou
       go : (t : Truth) → same_region (region P (home P (h + 2))) (arm_at w b) ≡ t → t ≡ false
       go false e = refl
       go true e =
-          let heads = ap (λ (r : Region). node P r.head) (sym bound_region ∙ region_is (region P (home P (h + 2))) (arm_at w b) e) in
+          let heads =
+          ap (λ (r : Region). node P r.head) (sym bound_region
+          ∙ region_is (region P (home P (h + 2))) (arm_at w b) e) in
           let bad : LoopHead (h - 1) ≡ Switches ((x.all).test).test = sym x.head ∙ heads ∙ switches_node P known h x in
           cc
 

@@ -1,4 +1,5 @@
--- From one iteration of a loop to the next: its head is live there, and what stands outside of the loop has the same path.
+-- From one iteration of a loop to the next: its head is live there, and what stands outside of the loop has the same
+-- path.
 use Rattle.std.proofs.Common.{◌≡◌, ℕ, zero, suc, ◌+◌, ◌-◌, ◌<◌, ◌≤◌, ◌++◌, true, List, [], ◌∷◌, length}
 use Rattle.std.proofs.Common.{refl, sym, ◌∙◌, ap, subst, arith}
 use Rattle.std.specs.Prelude.{take}
@@ -28,8 +29,10 @@ use Rattle.id_laws.proofs.Paths.Seats.{length_snoc}
 use Rattle.id_laws.proofs.Rows.Sources.{tests_other}
 
 -- where a loop goes on, its head is live again
-pub turned_again : {S : Source} (known : IsKnown S.checked) {number : ℕ → ℕ → ℕ} {run : List Event} {a : Activation} {w t : ℕ} → w < length (rows S.checked)
-    → node S.checked w ≡ Switches t → Live S number run a (arm_at w true) → Live S number run (at_iteration a.context (suc a.iteration)) (region S.checked w)
+pub turned_again : {S : Source} (known : IsKnown S.checked) {number : ℕ → ℕ
+    → ℕ} {run : List Event} {a : Activation} {w t : ℕ} → w < length (rows S.checked)
+    → node S.checked w ≡ Switches t → Live S number run a (arm_at w true)
+    → Live S number run (at_iteration a.context (suc a.iteration)) (region S.checked w)
 turned_again {S} known {number} {run} {a} {w} {t} within is live =
     let l = arm_live known live refl (of_turns is) in
     again within is l.live l.chosen l.goes
@@ -48,7 +51,8 @@ without_below d p e k =
     let xs = p.steps in
     let y : PathStep = record { place = e; number = k } in
     let less : length (xs ++ y ∷ []) - suc d ≡ length xs - d = omega (arith, length_snoc xs y) in
-    ap (λ n. record { steps = take n (xs ++ y ∷ []) }) less ∙ ap (λ zs. record { steps = zs }) (take_before (length xs - d) xs y (omega arith))
+    ap (λ n. record { steps = take n (xs ++ y ∷ []) }) less
+    ∙ ap (λ zs. record { steps = zs }) (take_before (length xs - d) xs y (omega arith))
 
 -- so it is one for all iterations of a context
 pub without_moved : (u : Seat) (d j k : ℕ) → without (suc d) (path_at u j) ≡ without (suc d) (path_at u k)
@@ -61,7 +65,8 @@ abbrev at_row : Checked → ℕ → Row
 at_row P h = at (rows P) h
 
 -- no more loops are round a binder than round where it is seen
-pub seen_depth : {P : Checked} (known : IsKnown P) {b : ℕ} {r : Region} → b < length (rows P) → is_binder (node P b) ≡ true → Sees P b r →
+pub seen_depth : {P : Checked} (known : IsKnown P) {b : ℕ} {r : Region} → b < length (rows P)
+    → is_binder (node P b) ≡ true → Sees P b r →
     depth (rows P) b ≤ depth (rows P) r.head
 seen_depth {P} known {b} {r} within binds (own is) =
     let l = home_row known within binds in
@@ -83,14 +88,25 @@ seen_depth {P} known {b} within binds (entered_in {h = h} {s = s} inside is amon
     let node_is : node P s ≡ Start = ap (node P) at ∙ start in
     let less : s < length (rows P) = subst (λ z. z < length (rows P)) (sym at) (start_within P known h x) in
     let same = (region_of known less (λ e. let bad : Start ≡ Program = sym node_is ∙ e in cc)).block in
-    omega (arith, more, ap (λ h. loops_from (rows P) (length (rows P)) (at_row P h).node) same, known.loop_depth h s inside is)
+    omega (
+      arith,
+      more,
+      ap (λ h. loops_from (rows P) (length (rows P)) (at_row P h).node) same,
+      known.loop_depth h s inside is,
+    )
 
 -- one loop more stands between a loop's head and a binder that its `Start` sees than between that and the binder
-pub loop_between : {P : Checked} (known : IsKnown P) {s b : ℕ} → s < length (rows P) → node P s ≡ Start → b < length (rows P) → is_binder (node P b) ≡ true
-    → Sees P b (region P s) → loops_between (rows P) (s + 1) b ≡ suc (loops_between (rows P) s b)
+pub loop_between : {P : Checked} (known : IsKnown P) {s b : ℕ} → s < length (rows P) → node P s ≡ Start
+    → b < length (rows P) → is_binder (node P b) ≡ true → Sees P b (region P s)
+    → loops_between (rows P) (s + 1) b ≡ suc (loops_between (rows P) s b)
 loop_between {P} known {s} {b} within is inside binds sees =
     let x = loop_of_start known within is in
     let back : (s + 1) - 1 ≡ s = omega arith in
     let deeper = known.loop_depth (s + 1) s x.within (x.head ∙ ap (λ k. LoopHead k) back) in
     let same = (region_of known within (λ e. let bad : Start ≡ Program = sym is ∙ e in cc)).block in
-    omega (arith, deeper, seen_depth known inside binds sees, ap (λ h. loops_from (rows P) (length (rows P)) (at_row P h).node) same)
+    omega (
+      arith,
+      deeper,
+      seen_depth known inside binds sees,
+      ap (λ h. loops_from (rows P) (length (rows P)) (at_row P h).node) same,
+    )

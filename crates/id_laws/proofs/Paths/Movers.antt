@@ -26,10 +26,13 @@ use Rattle.id_ops.specs.Operators.{address_in, fired, fired_by, fired_enter, fir
 use Rattle.id_check.specs.declared.checked.Checked.{Checked}
 use Rattle.id_build.specs.declared.arc.Form.{Form}
 use Rattle.id_build.specs.Rows.{node, op_by}
-use Rattle.id_laws.proofs.Rows.Arcs.{Does, starts, returns, enters, constant, unary, binary, turns_on, hands, joins, opens, passes, gets, names, answers}
-use Rattle.id_laws.proofs.Rows.Arcs.{sends_in, gives_back, varies, takes_in, moves_on, moves_name, advances, resets, gets_last}
+use Rattle.id_laws.proofs.Rows.Arcs.{Does, starts, returns, enters, constant, unary, binary, turns_on, hands, joins}
+use Rattle.id_laws.proofs.Rows.Arcs.{opens, passes, gets, names, answers}
+use Rattle.id_laws.proofs.Rows.Arcs.{sends_in, gives_back, varies, takes_in, moves_on, moves_name, advances, resets}
+use Rattle.id_laws.proofs.Rows.Arcs.{gets_last}
 use Rattle.id_laws.proofs.Rows.Arcs.{allocates, addresses, fetches, gets_reply, stores}
-use Rattle.id_laws.proofs.Rows.Arcs.{bounds_meet, begins_index, carries, meets_bound, goes_further, hands_index, has_one, adds_one}
+use Rattle.id_laws.proofs.Rows.Arcs.{bounds_meet, begins_index, carries, meets_bound, goes_further, hands_index}
+use Rattle.id_laws.proofs.Rows.Arcs.{has_one, adds_one}
 use Rattle.id_laws.specs.Topics.{of_fetch, of_store}
 use Rattle.id_laws.specs.Activations.{of_arms, of_turns, of_call, of_loop}
 use Rattle.id_runs.specs.Events.{GivesOn}
@@ -58,11 +61,13 @@ moves (op.Reset k) = true
 moves _ = false
 
 -- what makes a structure or an address moves nothing
-tested_or : (b : Truth) (u : Value) (j : FaultKind) (k : ℕ) (w : Value) → (if b then Out u else Failed j) ≡ Moved k w → ⊥
+tested_or : (b : Truth) (u : Value) (j : FaultKind) (k : ℕ) (w : Value) → (if b then Out u else Failed j) ≡ Moved k w
+    → ⊥
 tested_or true u j k w h = cc
 tested_or false u j k w h = cc
 
-pub moving : (o : Op) (t : Tag) (ops : Operands) (f : Fresh) (k : ℕ) (w : Value) → fired o t ops f ≡ Moved k w → moves o ≡ true
+pub moving : (o : Op) (t : Tag) (ops : Operands) (f : Fresh) (k : ℕ) (w : Value) → fired o t ops f ≡ Moved k w
+    → moves o ≡ true
 moving (op.Const c) t (Alone Signal) f k w h = cc
 moving (op.Const c) t _ f k w h = cc
 moving (op.Unary o) t (Alone (Int n)) f k w h = absurd (result_moves (result_of_unary o (constants.Int n)) k w h)
@@ -76,7 +81,8 @@ moving (op.Merge j) t (Alone v) f k w h = absurd (tested (same_kind (kind_of v) 
 moving (op.Merge j) t (Two v x) f k w h = cc
 moving (op.Switch j) t (Two (Bool b) v) f k w h = absurd (tested (same_kind (kind_of v) j) (Side b v) k w (λ e. cc) h)
 moving (op.Switch j) t _ f k w h = cc
-moving (op.Back j) t (Two (Continuation y) v) f k w h = absurd (tested (same_kind (kind_of v) j) (Sent y v) k w (λ e. cc) h)
+moving (op.Back j) t (Two (Continuation y) v) f k w h =
+    absurd (tested (same_kind (kind_of v) j) (Sent y v) k w (λ e. cc) h)
 moving (op.Back j) t _ f k w h = cc
 moving (op.Enter b r) t ops f k w h = absurd (enter_moves f.context ops k w h)
 moving (op.Send j n) t (Two (Opened c) v) f k w h = absurd (tested (same_kind (kind_of v) j) (Sent _ v) k w (λ e. cc) h)
@@ -96,7 +102,8 @@ moving (op.Store nested) t (Two (value.Address c) v) f k w h =
 moving (op.Store nested) t _ f k w h = cc
 
 -- whether an operator does is decided by the row
-pub mover_is : (P : Checked) (number : ℕ → ℕ → ℕ) {n part : ℕ} {o : Form} → Does P n part o → moves (op_by number o) ≡ is_mover (node P n)
+pub mover_is : (P : Checked) (number : ℕ → ℕ → ℕ) {n part : ℕ} {o : Form} → Does P n part o
+    → moves (op_by number o) ≡ is_mover (node P n)
 mover_is P number d = sym (by d)
   where
     by_head : (m : Node) → begins_block m ≡ true → is_mover m ≡ false
@@ -146,7 +153,8 @@ mover_is P number d = sym (by d)
     by (adds_one is) = ap is_mover is
     by (answers is) = ap is_mover is
 
-pub moved_by : (P : Checked) (number : ℕ → ℕ → ℕ) {n part : ℕ} {o : Form} → Does P n part o → (t : Tag) (ops : Operands) (f : Fresh) {k : ℕ} {v : Value}
+pub moved_by : (P : Checked) (number : ℕ → ℕ → ℕ) {n part : ℕ} {o : Form} → Does P n part o
+    → (t : Tag) (ops : Operands) (f : Fresh) {k : ℕ} {v : Value}
     → fired (op_by number o) t ops f ≡ Moved k v → is_mover (node P n) ≡ true
 moved_by P number {o = o} d t ops f {k} {v} e = sym (mover_is P number d) ∙ moving (op_by number o) t ops f k v e
 
@@ -178,7 +186,8 @@ reset_step j (Two v x) k w e = cc
 false_true : false ≡ true → ⊥
 false_true h = cc
 
-pub steps_by : (P : Checked) (number : ℕ → ℕ → ℕ) {n part : ℕ} {o : Form} → Does P n part o → (t : Tag) (ops : Operands) (f : Fresh) (k : ℕ) (v : Value)
+pub steps_by : (P : Checked) (number : ℕ → ℕ → ℕ) {n part : ℕ} {o : Form} → Does P n part o
+    → (t : Tag) (ops : Operands) (f : Fresh) (k : ℕ) (v : Value)
     → fired (op_by number o) t ops f ≡ Moved k v → Steps (node P n) t.iteration k
 steps_by P number {o = o} (starts is) t ops f k v e = absurd (false_true (moving (op_by number o) t ops f k v e))
 steps_by P number {o = o} (returns is) t ops f k v e = absurd (false_true (moving (op_by number o) t ops f k v e))
@@ -193,13 +202,18 @@ steps_by P number {o = o} (opens is) t ops f k v e = absurd (false_true (moving 
 steps_by P number {o = o} (passes is) t ops f k v e = absurd (false_true (moving (op_by number o) t ops f k v e))
 steps_by P number {o = o} (gets is) t ops f k v e = absurd (false_true (moving (op_by number o) t ops f k v e))
 steps_by P number {o = o} (names is) t ops f k v e = absurd (false_true (moving (op_by number o) t ops f k v e))
-steps_by P number {o = o} (sends_in j q is at) t ops f k v e = absurd (false_true (moving (op_by number o) t ops f k v e))
+steps_by P number {o = o} (sends_in j q is at) t ops f k v e =
+    absurd (false_true (moving (op_by number o) t ops f k v e))
 steps_by P number {o = o} (gives_back is) t ops f k v e = absurd (false_true (moving (op_by number o) t ops f k v e))
 steps_by P number {o = o} (varies is) t ops f k v e = absurd (false_true (moving (op_by number o) t ops f k v e))
-steps_by P number {o = o} (takes_in j is less) t ops f k v e = absurd (false_true (moving (op_by number o) t ops f k v e))
-steps_by P number (moves_on is) t ops f k v e = subst (λ m. Steps m t.iteration k) (sym is) (next_step _ t.iteration ops k v e)
-steps_by P number (moves_name j is less) t ops f k v e = subst (λ m. Steps m t.iteration k) (sym is) (next_step _ t.iteration ops k v e)
-steps_by P number (advances is) t ops f k v e = subst (λ m. Steps m t.iteration k) (sym is) (next_step _ t.iteration ops k v e)
+steps_by P number {o = o} (takes_in j is less) t ops f k v e =
+    absurd (false_true (moving (op_by number o) t ops f k v e))
+steps_by P number (moves_on is) t ops f k v e =
+    subst (λ m. Steps m t.iteration k) (sym is) (next_step _ t.iteration ops k v e)
+steps_by P number (moves_name j is less) t ops f k v e =
+    subst (λ m. Steps m t.iteration k) (sym is) (next_step _ t.iteration ops k v e)
+steps_by P number (advances is) t ops f k v e =
+    subst (λ m. Steps m t.iteration k) (sym is) (next_step _ t.iteration ops k v e)
 steps_by P number (resets is) t ops f k v e = subst (λ m. Steps m t.iteration k) (sym is) (reset_step _ ops k v e)
 steps_by P number {o = o} (gets_last is) t ops f k v e = absurd (false_true (moving (op_by number o) t ops f k v e))
 steps_by P number {o = o} (allocates is) t ops f k v e = absurd (false_true (moving (op_by number o) t ops f k v e))
@@ -222,7 +236,8 @@ tested_gives : (b : Truth) (k : ℕ) (v : Value) (c : Truth) (w : Value) → Giv
 tested_gives true k v c w g = g
 tested_gives false k v c w g = g
 
-pub no_gives : (o : Op) (t : Tag) (ops : Operands) (f : Fresh) (c : Truth) (w : Value) → moves o ≡ true → GivesOn (fired o t ops f) c w → ⊥
+pub no_gives : (o : Op) (t : Tag) (ops : Operands) (f : Fresh) (c : Truth) (w : Value) → moves o ≡ true
+    → GivesOn (fired o t ops f) c w → ⊥
 no_gives (op.Next j) t (Alone v) f c w h g = tested_gives (same_kind (kind_of v) j) (t.iteration + 1) v c w g
 no_gives (op.Next j) t (Two v x) f c w h g = g
 no_gives (op.Reset j) t (Alone v) f c w h g = tested_gives (same_kind (kind_of v) j) 0 v c w g

@@ -33,27 +33,33 @@ use Rattle.id_laws.proofs.Rows.Arcs.{allocates, makes, part_of}
 use Rattle.id_laws.proofs.Paths.Seats.{OneSeat, one_path}
 use Rattle.id_laws.proofs.Rows.Tokens.{one_part, same_activation, same_number}
 
-one_tag : {run : List Event} {t u : Tag} {f f' : Fired} (x : FiresAs run t f) (y : FiresAs run u f') → fired_event x ≡ fired_event y → t ≡ u
+one_tag : {run : List Event} {t u : Tag} {f f' : Fired} (x : FiresAs run t f) (y : FiresAs run u f')
+    → fired_event x ≡ fired_event y → t ≡ u
 one_tag x y e = cc
 
 -- the operator of an `array` makes structures
-pub makes_structures : {P : Checked} {g : Parts} {number : ℕ → ℕ → ℕ} {nested : _} {n a b : ℕ} → Numbered P g number → n < length (rows P) → node P n ≡ Array nested a b
-    → op_at g (number n 0) ≡ Some (op.Alloc nested)
+pub makes_structures : {P : Checked} {g : Parts} {number : ℕ → ℕ → ℕ} {nested : _} {n a b : ℕ} → Numbered P g number
+    → n < length (rows P) → node P n ≡ Array nested a b → op_at g (number n 0) ≡ Some (op.Alloc nested)
 makes_structures {n = n} numbered within is =
     let m = numbered.made n 0 _ _ (makes within (allocates is)) in
     ap (option_map (λ (i : Instr). i.op)) m.at ∙ ap (λ o. Some o) m.op
 
 -- a structure has one name
-pub one_name : (S : Source) (g : Parts) (number : ℕ → ℕ → ℕ) (numbered : Numbered S.checked g number) (run : List Event) (seats : OneSeat S number run)
+pub one_name : (S : Source) (g : Parts) (number : ℕ → ℕ
+    → ℕ) (numbered : Numbered S.checked g number) (run : List Event) (seats : OneSeat S number run)
     → StructuresApart g run → {s : Structure} {x y : Site} → Named S number run s x → Named S number run s y → x ≡ y
 one_name S g number numbered run seats apart {s} {x} {y} h k =
-    let same = apart (fired_event h.made) (fired_event k.made) (h.made).among (k.made).among s s (makes_structures numbered h.within h.node, refl)
+    let same =
+    apart (fired_event h.made) (fired_event k.made) (h.made).among (k.made).among s s
+    (makes_structures numbered h.within h.node, refl)
     (makes_structures numbered k.within k.node, refl) refl refl in
     let tags = one_tag h.made k.made same in
     let row = (one_part numbered (part_of h.within (allocates h.node)) (part_of k.within (allocates k.node))
     (same_number h.activation k.activation _ _ tags)).0 in
     let acts = same_activation h.activation k.activation _ _ tags in
-    let paths : x.path ≡ y.path = one_path seats (subst (λ a. Rattle.id_laws.specs.Activations.PathOf S number run a x.path) acts h.path_of) k.path_of in
+    let paths : x.path ≡ y.path =
+    one_path seats (subst (λ a. Rattle.id_laws.specs.Activations.PathOf S number run a x.path) acts h.path_of)
+    k.path_of in
     let places : x.place ≡ y.place = h.place ∙ ap (place S.checked) row ∙ sym k.place in
     (λ i. record { path = paths i; place = places i })
 
@@ -64,8 +70,8 @@ pub record Replied (run : List Event) (u : Tag) (v : Value) : Type 0 where
   pub asked : Among (Read cell u) (handled run)
   pub put : Among (Write cell v origin) (handled run)
 
-pub replied : (g : Parts) (vs : List Constant) (count : ℕ) (s : World) (run : List Event) → Reach g vs count s run → (u : Tag) (v : Value) (e : Event)
-    → Replies run u v e
+pub replied : (g : Parts) (vs : List Constant) (count : ℕ) (s : World) (run : List Event) → Reach g vs count s run
+    → (u : Tag) (v : Value) (e : Event) → Replies run u v e
     → Replied run u v
 replied g vs count s run r u v e x =
     let z = reply_sound run (cell_at count s) (cells_exact g vs count s run r) u v e x in

@@ -21,8 +21,10 @@ use Rattle.id_runs.proofs.RecordsOfRuns.{from_record, recorded}
 use Rattle.id_runs.proofs.Serials.{contexts_apart}
 use Rattle.id_laws.specs.Activations.{Live, PathOf, ReturnsTo, at_start, entered, to_answer, to_row}
 use Rattle.id_laws.specs.Laws.{ArePathsApart, events, messages}
-use Rattle.id_laws.specs.Topics.{Told, Topic, Turned, ValueOf, NameIn, TestOf, ResultOf, WayBack, ContextOf, CellOf, Nothing, Tells, topic_at}
-use Rattle.id_laws.specs.Topics.{SaidOf, BoundIn, IndexOf, FlagOf, SaidIndex, FirstIndex, FirstFlag, SaidFirst, NextIndex, NextFlag, SaidNext, LastIndex, AndOne, GoesFurther}
+use Rattle.id_laws.specs.Topics.{Told, Topic, Turned, ValueOf, NameIn, TestOf, ResultOf, WayBack, ContextOf, CellOf}
+use Rattle.id_laws.specs.Topics.{Nothing, Tells, topic_at}
+use Rattle.id_laws.specs.Topics.{SaidOf, BoundIn, IndexOf, FlagOf, SaidIndex, FirstIndex, FirstFlag, SaidFirst}
+use Rattle.id_laws.specs.Topics.{NextIndex, NextFlag, SaidNext, LastIndex, AndOne, GoesFurther}
 use Rattle.id_laws.proofs.Rows.Assumed.{IsKnown}
 use Rattle.id_laws.proofs.Telling.FiringMeans.{IsBacked}
 use Rattle.id_laws.proofs.Paths.Opened.{main_first}
@@ -31,7 +33,8 @@ use Rattle.id_laws.proofs.Paths.Sites.{once}
 use Rattle.id_laws.proofs.Telling.StartTells.{all_tell, opening_live}
 use Rattle.id_laws.proofs.Paths.TagPaths.{CallFirst, first_of, path_seated}
 
-module _ (S : Source) (known : IsKnown S.checked) (g : Parts) (number : ℕ → ℕ → ℕ) (numbered : Numbered S.checked g number) (count : ℕ)
+module _ (S : Source) (known : IsKnown S.checked) (g : Parts) (number : ℕ → ℕ
+    → ℕ) (numbered : Numbered S.checked g number) (count : ℕ)
     (s : World) (run : List Event) (r : Reach g S.inputs count s run) (backed : IsBacked S run) where
   -- a region is live in some iteration of the activation's context, in its own where that is not the first
   record LiveIn (a : Activation) : Type 0 where
@@ -44,7 +47,8 @@ module _ (S : Source) (known : IsKnown S.checked) (g : Parts) (number : ℕ → 
   own_live {a} {q} live = record { iteration = a.iteration; region = q; live = live; own = inl refl }
 
   -- the first iteration of a context from which something returns is live
-  returning : {c : Context} {h : ℕ} {b : Activation} {q : ℕ} → ReturnsTo S number run c h b q → Live S number run (at_iteration c 0) (top h)
+  returning : {c : Context} {h : ℕ} {b : Activation} {q : ℕ} → ReturnsTo S number run c h b q
+      → Live S number run (at_iteration c 0) (top h)
   returning to_answer = at_start
   returning (to_row within begins live opened) = entered within begins live opened
 
@@ -55,7 +59,8 @@ module _ (S : Source) (known : IsKnown S.checked) (g : Parts) (number : ℕ → 
   told_live a (NameIn q b) v x = own_live x.0
   told_live a (TestOf n) v x = own_live x.live
   told_live a (ResultOf h) v x = record { iteration = x.iteration; region = _; live = x.live; own = inr x.at_first }
-  told_live a (WayBack h) v x = record { iteration = 0; region = top h; live = returning x.returns; own = inl x.at_first }
+  told_live a (WayBack h) v x =
+      record { iteration = 0; region = top h; live = returning x.returns; own = inl x.at_first }
   told_live a (ContextOf n) v x = own_live x.live
   told_live a (CellOf n) v x = own_live x.live
   told_live a (SaidOf e) v x = own_live x.0
@@ -89,7 +94,8 @@ module _ (S : Source) (known : IsKnown S.checked) (g : Parts) (number : ℕ → 
     | inr e ↦ e
   ]
 
-  call_zero : {a : Activation} → LiveIn a → CallFirst S known g number numbered count s run r backed a.context a.iteration
+  call_zero : {a : Activation} → LiveIn a
+      → CallFirst S known g number numbered count s run r backed a.context a.iteration
   call_zero {a} l b n x within is o = elim l.own [
     | inl e ↦ e ∙ first_of S known g number numbered count s run r backed l.live b n x within is o
     | inr e ↦ e
@@ -105,7 +111,8 @@ module _ (S : Source) (known : IsKnown S.checked) (g : Parts) (number : ℕ → 
     | inl was ↦
         let told = Among-from_map (λ (v : EventView). v.message.payload) x (events s) was in
         let from = from_record g S.inputs count s run r told.0 (recorded s told.0 told.1) in
-        inr (subst (λ y. Among y (handled run)) (sym (told.2 ∙ (from.2).payload)) (Among-map payload_of from.0 run from.1))
+        inr (subst (λ y. Among y (handled run)) (sym (told.2 ∙ (from.2).payload))
+        (Among-map payload_of from.0 run from.1))
     | inr flies ↦ inl flies
   ]
 
@@ -124,5 +131,6 @@ module _ (S : Source) (known : IsKnown S.checked) (g : Parts) (number : ℕ → 
       sym (path_seated S known g number numbered count s run r backed (tag_of y) q.0 (call_zero m) q.1) ∙ sym same
       ∙ path_seated S known g number numbered count s run r backed (tag_of x) p.0 (call_zero l) p.1 in
       paths_apart S known g number numbered run apart (once S known g number numbered count s run r backed)
-      (λ a n h c d within is o. main_first S known number run g numbered apart (opening_live S known g number numbered run count s r backed a n h c d within is o))
+      (λ a n h c d within is o. main_first S known number run g numbered apart
+      (opening_live S known g number numbered run count s r backed a n h c d within is o))
       p.1 (subst (PathOf S number run (activation_of (tag_of y))) one q.1) (main_zero l) (main_zero m)

@@ -1,4 +1,5 @@
--- Each token that an event sends came one of the ways, each read was asked by a fetch, and each write stored by a store.
+-- Each token that an event sends came one of the ways, each read was asked by a fetch, and each write stored by a
+-- store.
 use Rattle.std.proofs.Common.{◌≡◌, ◌⊎◌, inl, inr, ℕ, ℤ, ◌+◌, ◌<◌, ◌-◌, length, arith, Bool as Truth, true, false}
 use Rattle.std.proofs.Common.{cond, Some, List, slice_get, refl, sym, ◌∙◌, ap, subst}
 use Rattle.std.specs.Bool.{beq}
@@ -28,7 +29,8 @@ use Rattle.id_tag.specs.Kinds.{kind_of, same_kind}
 use Rattle.id_tag.specs.declared.Context.{Context}
 use Rattle.id_tag.specs.declared.Tag.{Tag}
 use Rattle.id_tag.specs.declared.Value.{Value}
-use Rattle.id_tag.specs.declared.Value.TheVariants.{Signal, Int, Bool, Structure as Made, Address as At, Context as Opened, Continuation}
+use Rattle.id_tag.specs.declared.Value.TheVariants.{Signal, Int, Bool, Structure as Made, Address as At}
+use Rattle.id_tag.specs.declared.Value.TheVariants.{Context as Opened, Continuation}
 use Rattle.id_tag.specs.declared.Payload.{Payload}
 use Rattle.id_tag.specs.declared.Payload.TheVariants.{Token, Read, Write}
 use Rattle.id_tag.specs.declared.Cell.{Cell}
@@ -65,7 +67,8 @@ use Rattle.id_laws.proofs.Paths.Begun.{begun_at}
 use Rattle.id_laws.proofs.Rows.Blocks.{all_listed}
 use Rattle.id_laws.proofs.Rows.Arcs.{answers, doing, gets_reply, part_of, target_part}
 use Rattle.id_laws.proofs.Rows.Assumed.{IsKnown}
-use Rattle.id_laws.proofs.Paths.Sendings.{Passing, is_back, is_enter, is_fetch, is_send, is_store, head_parts, returns_at}
+use Rattle.id_laws.proofs.Paths.Sendings.{Passing, is_back, is_enter, is_fetch, is_send, is_store, head_parts}
+use Rattle.id_laws.proofs.Paths.Sendings.{returns_at}
 use Rattle.id_laws.proofs.Paths.Sendings.{sending_part, sent_part, wants_back, wants_context}
 use Rattle.id_laws.proofs.Rows.Tokens.{told_at}
 use Rattle.id_laws.proofs.Paths.Sent.{sends_there}
@@ -92,7 +95,8 @@ result_sends (Gives c) u w h = cc
 result_sends (Fails k) u w h = cc
 result_sends Lacks u w h = cc
 
-back_sends : (k : PortKind) (t : Tag) (v : Value) (b : Truth) (u : Tag) (w : Value) → cond b (Sent t v) Nothing ≡ Sent u w → (t ≡ u) × (v ≡ w)
+back_sends : (k : PortKind) (t : Tag) (v : Value) (b : Truth) (u : Tag) (w : Value)
+    → cond b (Sent t v) Nothing ≡ Sent u w → (t ≡ u) × (v ≡ w)
 back_sends k t v true u w h = (cc, cc)
 back_sends k t v false u w h = cc
 
@@ -152,7 +156,8 @@ sent_back (op.Const c) t _ f u w h = cc
 sent_back (op.Unary o) t (Alone (Int n)) f u w h = absurd (result_sends (result_of_unary o (constants.Int n)) u w h)
 sent_back (op.Unary o) t (Alone (Bool b)) f u w h = absurd (result_sends (result_of_unary o (constants.Bool b)) u w h)
 sent_back (op.Unary o) t _ f u w h = cc
-sent_back (op.Binary (class.Arithmetic o)) t (Two (Int a) (Int b)) f u w h = absurd (result_sends (calculated o a b) u w h)
+sent_back (op.Binary (class.Arithmetic o)) t (Two (Int a) (Int b)) f u w h =
+    absurd (result_sends (calculated o a b) u w h)
 sent_back (op.Binary (class.Comparison o)) t (Two (Int a) (Int b)) f u w h = cc
 sent_back (op.Binary (class.Truth o)) t (Two (Bool a) (Bool b)) f u w h = cc
 sent_back (op.Binary o) t _ f u w h = cc
@@ -167,7 +172,15 @@ sent_back (op.Back k) t _ f u w h = cc
 sent_back (op.Enter b r) t ops f u w h = absurd (enter_sends f.context ops u w h)
 sent_back (op.Send k n) t (Two (Opened c) v) f u w h =
     let b = back_sends k (tag_within c n) v (same_kind (kind_of v) k) u w h in
-    inr (record { kind = k; target = n; send = refl; context = c; operands = ap (λ z. Two (Opened c) z) b.1; goes = sym b.0 })
+    inr (record {
+      kind = k;
+      target = n;
+      send = refl;
+      context = c;
+      operands = ap (λ z. Two (Opened c) z) b.1;
+      goes =
+          sym b.0;
+    })
 sent_back (op.Send k n) t _ f u w h = cc
 sent_back (op.Next k) t ops f u w h = absurd (next_sends k t.iteration ops u w h)
 sent_back (op.Reset k) t ops f u w h = absurd (reset_sends k ops u w h)
@@ -228,8 +241,8 @@ pub data SentSo (S : Source) (number : ℕ → ℕ → ℕ) (run : List Event) (
   as_write : StoredBy S number run e x → SentSo S number run e x
 
 -- a firing, with its event, under an equal tag
-pub moved_firing : {run : List Event} {t u : Tag} {f : Fired} {e : Event} (x : FiresAs run t f) → fired_event x ≡ e → t ≡ u
-    → (y : FiresAs run u f) × (fired_event y ≡ e)
+pub moved_firing : {run : List Event} {t u : Tag} {f : Fired} {e : Event} (x : FiresAs run t f) → fired_event x ≡ e
+    → t ≡ u → (y : FiresAs run u f) × (fired_event y ≡ e)
 moved_firing {run} {t} {u} {f} {e} x is same = subst (λ z. (y : FiresAs run z f) × (fired_event y ≡ e)) same (x, is)
 
 continuation_is : {t u : Tag} → Continuation t ≡ Continuation u → t ≡ u
@@ -245,16 +258,17 @@ pub last_row : {n : ℕ} → 0 < n → n - 1 < n
 last_row h = omega (arith, h)
 
 -- what a block gives goes to a part
-pub return_part : (S : Source) (number : ℕ → ℕ → ℕ) (run : List Event) → IsKnown S.checked → {c : Context} {h : ℕ} {a : Activation} {n : ℕ}
-    → ReturnsTo S number run c h a n → IsPart S.checked n 0
+pub return_part : (S : Source) (number : ℕ → ℕ → ℕ) (run : List Event) → IsKnown S.checked
+    → {c : Context} {h : ℕ} {a : Activation} {n : ℕ} → ReturnsTo S number run c h a n → IsPart S.checked n 0
 return_part S number run known to_answer = part_of (last_row (known.table).some) (answers (known.table).ends)
 return_part S number run known (to_row within is live opened) = returns_at known within is
 
-module _ (S : Source) (g : Parts) (number : ℕ → ℕ → ℕ) (numbered : Numbered S.checked g number) (count : ℕ) (s : World) (run : List Event)
+module _ (S : Source) (g : Parts) (number : ℕ → ℕ
+    → ℕ) (numbered : Numbered S.checked g number) (count : ℕ) (s : World) (run : List Event)
     (r : Reach g S.inputs count s run)
     (known : IsKnown S.checked) (tell : AllTell S number run s) where
-  along : (e : Event) (x : Payload) (t : Tag) (y : Fired) (b : Truth) (v : Value) (f : FiresAs run t y) → fired_event f ≡ e → GivesOn y b v
-      → (d : Dest) → Among d (dests_at g t.instr b)
+  along : (e : Event) (x : Payload) (t : Tag) (y : Fired) (b : Truth) (v : Value) (f : FiresAs run t y)
+      → fired_event f ≡ e → GivesOn y b v → (d : Dest) → Among d (dests_at g t.instr b)
       → x ≡ token_to t v d → CameBy S number run e x
   along e x t f' b v f is gives d among says =
       let arc = numbered.no_more t.instr b d (sends_there g t.instr b d _ refl among) in
@@ -269,7 +283,12 @@ module _ (S : Source) (g : Parts) (number : ℕ → ℕ → ℕ) (numbered : Num
         value = v;
         is = says ∙ ap (λ n. Token (tag_in a n) d.port v) (sym arc.goes);
         is_part = target_part arc.feeds;
-        way = by_arc a from arc.row arc.part d.port v arc.feeds (record { fired = f'; fires = y.0; gives = subst (λ c. GivesOn f' c v) (sym arc.on) gives })
+        way = by_arc a from arc.row arc.part d.port v arc.feeds (record {
+          fired = f';
+          fires = y.0;
+          gives =
+              subst (λ c. GivesOn f' c v) (sym arc.on) gives;
+        })
             y.1;
       }
 
@@ -291,14 +310,16 @@ module _ (S : Source) (g : Parts) (number : ℕ → ℕ → ℕ) (numbered : Num
       }
 
   -- a `back` sends to where its block returns
-  goes_back : (e : Event) (a : Activation) (h : ℕ) (u : Tag) (v : Value) → (f : FiresAs run (tag_in a (number h 1)) (Sent u v)) → fired_event f ≡ e
+  goes_back : (e : Event) (a : Activation) (h : ℕ) (u : Tag) (v : Value)
+      → (f : FiresAs run (tag_in a (number h 1)) (Sent u v)) → fired_event f ≡ e
       → ShownWayBack S number run a h (Continuation u) → (x : Payload) → x ≡ Token u Zero v → CameBy S number run e x
   goes_back e a h u v f is back x says =
       let to : u ≡ tag_in back.caller (number back.row 0) = continuation_is (back.is) in
       let first : tag_in a (number h 1) ≡ tag_in (at_iteration a.context 0) (number h 1) =
       (λ i. record { context = a.context; iteration = back.at_first i; instr = number h 1 }) in
       let y = moved_firing f is first in
-      let z = subst (λ t. (y : FiresAs run (tag_in (at_iteration a.context 0) (number h 1)) (Sent t v)) × (fired_event y ≡ e)) to y in
+      let z = subst (λ t. (y : FiresAs run (tag_in (at_iteration a.context 0) (number h 1)) (Sent t v))
+      × (fired_event y ≡ e)) to y in
       record {
         activation = back.caller;
         row = back.row;
@@ -310,25 +331,30 @@ module _ (S : Source) (g : Parts) (number : ℕ → ℕ → ℕ) (numbered : Num
         way = by_back a.context h back.caller back.row v back.returns z.0 z.1;
       }
 
-  back_told : (t : Tag) (n : ℕ) (u : Tag) → n < length (rows S.checked) → IsPart S.checked n 1 → begins_block (node S.checked n) ≡ true → number n 1 ≡ t.instr
-      → Among (Token t Zero (Continuation u)) (handled run) → ShownWayBack S number run (activation_of t) n (Continuation u)
+  back_told : (t : Tag) (n : ℕ) (u : Tag) → n < length (rows S.checked) → IsPart S.checked n 1
+      → begins_block (node S.checked n) ≡ true → number n 1 ≡ t.instr
+      → Among (Token t Zero (Continuation u)) (handled run)
+      → ShownWayBack S number run (activation_of t) n (Continuation u)
   back_told t n u within is_part is at h =
       let a = activation_of t in
       let told : Told S number run (Token (tag_in a (number n 1)) Zero (Continuation u)) = subst
       (λ m. Told S number run (Token (tag_in a m) Zero (Continuation u))) (sym at) (tell _ (inr h)) in
       let wanted = told_at S g number run numbered a n 1 Zero (Continuation u) is_part told in
-      subst (λ z. Tells S number run a z (Continuation u)) (wants_back S.checked n (region S.checked n) (node S.checked n) is) wanted
+      subst (λ z. Tells S number run a z (Continuation u))
+      (wants_back S.checked n (region S.checked n) (node S.checked n) is) wanted
 
   -- the form of operator that has fired
-  fired_form : (t : Tag) {f : Fired} {ops : Operands} (y : HasFired g run t f ops) (z : IsNumber S.checked number t.instr) → op_by number z.form ≡ (y.instr).op
+  fired_form : (t : Tag) {f : Fired} {ops : Operands} (y : HasFired g run t f ops)
+      (z : IsNumber S.checked number t.instr) → op_by number z.form ≡ (y.instr).op
   fired_form t y z =
       let m = numbered.made z.row z.part z.form z.place z.makes in
       let both : Some m.instr ≡ Some y.instr = sym m.at ∙ ap (slice_get g.instrs) z.is ∙ y.at in
       sym m.op ∙ ap (λ (i : Instr). i.op) (one_instr both)
 
   -- what a `back` has sent went back
-  came_back : (e : Event) (x : Payload) (t u : Tag) (v : Value) (f : FiresAs run t (Sent u v)) → fired_event f ≡ e → x ≡ Token u Zero v
-      → (y : HasFired g run t (Sent u v) f.operands) → SentBack (y.instr).op f.operands u v → CameBy S number run e x
+  came_back : (e : Event) (x : Payload) (t u : Tag) (v : Value) (f : FiresAs run t (Sent u v)) → fired_event f ≡ e
+      → x ≡ Token u Zero v → (y : HasFired g run t (Sent u v) f.operands) → SentBack (y.instr).op f.operands u v
+      → CameBy S number run e x
   came_back e x t u v f is says y b = by y.handled_are
     where
       z : IsNumber S.checked number t.instr
@@ -350,14 +376,17 @@ module _ (S : Source) (g : Parts) (number : ℕ → ℕ → ℕ) (numbered : Num
           let came = subst (λ c. Among (Token t Zero c) (handled run)) (first_operand same) h in
           let a = activation_of t in
           let moved = moved_firing f is (ap (tag_in a) (sym at)) in
-          goes_back e a z.row u v moved.0 moved.1 (back_told t z.row u (z.makes).within (first_part head.0) head.1 at came) x says
+          goes_back e a z.row u v moved.0 moved.1
+          (back_told t z.row u (z.makes).within (first_part head.0) head.1 at came) x says
 
   -- a token with a context, for what sends into it
-  context_told : (t : Tag) (n part i row to : ℕ) (c : Context) → SendsTo S.checked n part i row to → number n part ≡ t.instr
-      → Among (Token t Zero (Opened c)) (handled run) → ShownContext S number run (activation_of t) i (Opened c)
+  context_told : (t : Tag) (n part i row to : ℕ) (c : Context) → SendsTo S.checked n part i row to
+      → number n part ≡ t.instr → Among (Token t Zero (Opened c)) (handled run)
+      → ShownContext S number run (activation_of t) i (Opened c)
   context_told t n part i row to c sends at h =
       let a = activation_of t in
-      let told : Told S number run (Token (tag_in a (number n part)) Zero (Opened c)) = subst (λ m. Told S number run (Token (tag_in a m) Zero (Opened c)))
+      let told : Told S number run (Token (tag_in a (number n part)) Zero (Opened c)) =
+      subst (λ m. Told S number run (Token (tag_in a m) Zero (Opened c)))
       (sym at) (tell _ (inr h)) in
       let wanted = told_at S g number run numbered a n part Zero (Opened c) (sending_part known sends) told in
       subst (λ z. Tells S number run a z (Opened c)) (wants_context sends) wanted
@@ -366,15 +395,18 @@ module _ (S : Source) (g : Parts) (number : ℕ → ℕ → ℕ) (numbered : Num
   opened_is h = cc
 
   -- what a `send` has sent went into the context
-  came_in : (e : Event) (x : Payload) (t u : Tag) (v : Value) (f : FiresAs run t (Sent u v)) → fired_event f ≡ e → x ≡ Token u Zero v
-      → (y : HasFired g run t (Sent u v) f.operands) → SentIn (y.instr).op f.operands u v → CameBy S number run e x
+  came_in : (e : Event) (x : Payload) (t u : Tag) (v : Value) (f : FiresAs run t (Sent u v)) → fired_event f ≡ e
+      → x ≡ Token u Zero v → (y : HasFired g run t (Sent u v) f.operands) → SentIn (y.instr).op f.operands u v
+      → CameBy S number run e x
   came_in e x t u v f is says y b = by y.handled_are
     where
       z : IsNumber S.checked number t.instr
       z = numbered.only t.instr y.instr y.at
 
       sending : Passing S.checked number z.row z.part b.target
-      sending = is_send S.checked number z.part z.row z.form b.kind b.target (z.makes).within (doing z.makes).does (fired_form t y z ∙ b.send)
+      sending =
+          is_send S.checked number z.part z.row z.form b.kind b.target (z.makes).within (doing z.makes).does
+          (fired_form t y z ∙ b.send)
 
       by : OperandsHandled run t (two_ports (y.instr).op) f.operands → CameBy S number run e x
       by (one_handled p w e' two h) = let bad : Alone w ≡ Two (Opened b.context) v = sym e' ∙ b.operands in cc
@@ -382,11 +414,14 @@ module _ (S : Source) (g : Parts) (number : ℕ → ℕ → ℕ) (numbered : Num
           let same : Two w w' ≡ Two (Opened b.context) v = sym e' ∙ b.operands in
           let came = subst (λ c. Among (Token t Zero c) (handled run)) (first_operand same) h in
           let a = activation_of t in
-          let told = context_told t z.row z.part sending.opener sending.row sending.part b.context sending.sends z.is came in
+          let told =
+          context_told t z.row z.part sending.opener sending.row sending.part b.context sending.sends z.is came in
           let c = told.context in
-          let goes : u ≡ tag_in (at_iteration c 0) (number sending.row sending.part) = b.goes ∙ (λ i. tag_within (opened_is told.is i) (sending.goes i)) in
+          let goes : u ≡ tag_in (at_iteration c 0) (number sending.row sending.part) =
+          b.goes ∙ (λ i. tag_within (opened_is told.is i) (sending.goes i)) in
           let moved = moved_firing f is (ap (tag_in a) (sym z.is)) in
-          let sent = subst (λ k. (q : FiresAs run (tag_in a (number z.row z.part)) (Sent k v)) × (fired_event q ≡ e)) goes moved in
+          let sent =
+          subst (λ k. (q : FiresAs run (tag_in a (number z.row z.part)) (Sent k v)) × (fired_event q ≡ e)) goes moved in
           record {
             activation = at_iteration c 0;
             row = sending.row;
@@ -395,11 +430,12 @@ module _ (S : Source) (g : Parts) (number : ℕ → ℕ → ℕ) (numbered : Num
             value = v;
             is = says ∙ ap (λ k. Token k Zero v) goes;
             is_part = sent_part known sending.sends;
-            way = by_send a c z.row z.part sending.opener sending.row sending.part v sending.sends told.opens sent.0 sent.1;
+            way = by_send a c z.row z.part sending.opener sending.row sending.part v sending.sends told.opens sent.0
+                sent.1;
           }
 
-  came_to_tag : (e : Event) (x : Payload) (t u : Tag) (v : Value) (f : FiresAs run t (Sent u v)) → fired_event f ≡ e → x ≡ Token u Zero v
-      → CameBy S number run e x
+  came_to_tag : (e : Event) (x : Payload) (t u : Tag) (v : Value) (f : FiresAs run t (Sent u v)) → fired_event f ≡ e
+      → x ≡ Token u Zero v → CameBy S number run e x
   came_to_tag e x t u v f is says =
       let y = has_fired g S.inputs count s run r f in
       elim (sent_back (y.instr).op t f.operands y.fresh u v (sym y.is)) [
@@ -421,13 +457,15 @@ module _ (S : Source) (g : Parts) (number : ℕ → ℕ → ℕ) (numbered : Num
     first : b ≡ number head 0
     returns_to : back ≡ number end 0
 
-  opening : (e : Event) (t : Tag) (c : Context) (f : FiresAs run t (Entered c)) → fired_event f ≡ e → (b back : ℕ) → op_at g t.instr ≡ Some (op.Enter b back)
-      → Opening t c e b back
+  opening : (e : Event) (t : Tag) (c : Context) (f : FiresAs run t (Entered c)) → fired_event f ≡ e → (b back : ℕ)
+      → op_at g t.instr ≡ Some (op.Enter b back) → Opening t c e b back
   opening e t c f is b back names_are =
       let y = has_fired g S.inputs count s run r f in
       let z = numbered.only t.instr y.instr y.at in
-      let op_is : Some (y.instr).op ≡ Some (op.Enter b back) = sym (ap (option_map (λ (i : Instr). i.op)) y.at) ∙ names_are in
-      let x = is_enter S.checked number z.part z.row z.form b back (doing z.makes).does (fired_form t y z ∙ some_op op_is) in
+      let op_is : Some (y.instr).op ≡ Some (op.Enter b back) =
+      sym (ap (option_map (λ (i : Instr). i.op)) y.at) ∙ names_are in
+      let x = is_enter S.checked number z.part z.row z.form b back (doing z.makes).does (fired_form t y z
+      ∙ some_op op_is) in
       let at : number z.row 0 ≡ t.instr = ap (number z.row) (sym x.first_part) ∙ z.is in
       let moved = moved_firing f is (ap (tag_in (activation_of t)) (sym at)) in
       record {
@@ -445,7 +483,8 @@ module _ (S : Source) (g : Parts) (number : ℕ → ℕ → ℕ) (numbered : Num
       some_op : {o q : Op} → Some o ≡ Some q → o ≡ q
       some_op h = cc
 
-  came_first : (e : Event) (x : Payload) (t : Tag) (c : Context) (b back : ℕ) → Opening t c e b back → x ≡ Token (tag_within c b) Zero Signal →
+  came_first : (e : Event) (x : Payload) (t : Tag) (c : Context) (b back : ℕ) → Opening t c e b back
+      → x ≡ Token (tag_within c b) Zero Signal →
       CameBy S number run e x
   came_first e x t c b back o says = record {
     activation = at_iteration c 0;
@@ -462,7 +501,9 @@ module _ (S : Source) (g : Parts) (number : ℕ → ℕ → ℕ) (numbered : Num
       → x ≡ Token (tag_within c (b + 1)) Zero (Continuation (beside t back)) → CameBy S number run e x
   came_second e x t c b back o says =
       let begun = begun_at known o.within o.begins in
-      let second : b + 1 ≡ number o.head 1 = ap (λ k. k + 1) o.first ∙ sym (numbered.second_behind o.head (all_listed S.checked o.head begun.head_within begun.head)) in
+      let second : b + 1 ≡ number o.head 1 =
+      ap (λ k. k + 1) o.first
+      ∙ sym (numbered.second_behind o.head (all_listed S.checked o.head begun.head_within begun.head)) in
       let to : beside t back ≡ tag_in (activation_of t) (number o.end 0) = ap (beside t) o.returns_to in
       record {
         activation = at_iteration c 0;
@@ -476,18 +517,20 @@ module _ (S : Source) (g : Parts) (number : ℕ → ℕ → ℕ) (numbered : Num
       }
 
   -- what a `fetch` has asked for
-  came_asking : (e : Event) (x : Payload) (t : Tag) (c : Cell) (u : Tag) (f : FiresAs run t (Asked c u)) → fired_event f ≡ e → x ≡ Read c u
-      → AskedBy S number run e x
+  came_asking : (e : Event) (x : Payload) (t : Tag) (c : Cell) (u : Tag) (f : FiresAs run t (Asked c u))
+      → fired_event f ≡ e → x ≡ Read c u → AskedBy S number run e x
   came_asking e x t c u f is says =
       let y = has_fired g S.inputs count s run r f in
       let asks = asked_by (y.instr).op t f.operands y.fresh c u (sym y.is) in
       let z = numbered.only t.instr y.instr y.at in
-      let row = is_fetch S.checked number z.part z.row z.form u.instr (doing z.makes).does (fired_form t y z ∙ asks.fetch) in
+      let row =
+      is_fetch S.checked number z.part z.row z.form u.instr (doing z.makes).does (fired_form t y z ∙ asks.fetch) in
       let a = activation_of t in
       let own : t ≡ tag_in a (number z.row 1) = ap (tag_in a) (sym z.is ∙ ap (number z.row) row.second) in
       let reply : u ≡ tag_in a (number z.row 2) = asks.reply ∙ ap (tag_in a) row.reply in
       let moved = moved_firing f is own in
-      let sent = subst (λ k. (q : FiresAs run (tag_in a (number z.row 1)) (Asked c k)) × (fired_event q ≡ e)) reply moved in
+      let sent =
+      subst (λ k. (q : FiresAs run (tag_in a (number z.row 1)) (Asked c k)) × (fired_event q ≡ e)) reply moved in
       record {
         activation = a;
         row = z.row;
@@ -502,8 +545,8 @@ module _ (S : Source) (g : Parts) (number : ℕ → ℕ → ℕ) (numbered : Num
       }
 
   -- what a `store` has stored
-  came_storing : (e : Event) (x : Payload) (t : Tag) (c : Cell) (v : Value) (u : Tag) (f : FiresAs run t (Stored c v u)) → fired_event f ≡ e → x ≡ Write c v u
-      → StoredBy S number run e x
+  came_storing : (e : Event) (x : Payload) (t : Tag) (c : Cell) (v : Value) (u : Tag) (f : FiresAs run t (Stored c v u))
+      → fired_event f ≡ e → x ≡ Write c v u → StoredBy S number run e x
   came_storing e x t c v u f is says =
       let y = has_fired g S.inputs count s run r f in
       let puts = stored_by (y.instr).op t f.operands y.fresh c v u (sym y.is) in
@@ -513,7 +556,8 @@ module _ (S : Source) (g : Parts) (number : ℕ → ℕ → ℕ) (numbered : Num
       let own : t ≡ tag_in a (number z.row 0) = ap (tag_in a) (sym z.is ∙ ap (number z.row) row.first) in
       let origin : u ≡ tag_in a (number z.row 0) = puts.origin ∙ own in
       let moved = moved_firing f is own in
-      let sent = subst (λ k. (q : FiresAs run (tag_in a (number z.row 0)) (Stored c v k)) × (fired_event q ≡ e)) origin moved in
+      let sent =
+      subst (λ k. (q : FiresAs run (tag_in a (number z.row 0)) (Stored c v k)) × (fired_event q ≡ e)) origin moved in
       record {
         activation = a;
         row = z.row;
@@ -529,11 +573,13 @@ module _ (S : Source) (g : Parts) (number : ℕ → ℕ → ℕ) (numbered : Num
       }
 
   -- the answer to a read goes to the fetch that has asked
-  came_answering : (e : Event) (x : Payload) (t : Tag) (v : Value) → x ≡ Token t Zero v → Replies run t v e → CameBy S number run e x
+  came_answering : (e : Event) (x : Payload) (t : Tag) (v : Value) → x ≡ Token t Zero v → Replies run t v e
+      → CameBy S number run e x
   came_answering e x t v says answer =
       let z = reply_sound run (cell_at count s) (cells_exact g S.inputs count s run r) t v e answer in
       let asks = (z.1).1 in
-      let told : ToldRead S number run z.0 t = tell (Read z.0 t) (inr (Among-map payload_of (Looked asks.element z.0 t (z.1).0) run asks.among)) in
+      let told : ToldRead S number run z.0 t =
+      tell (Read z.0 t) (inr (Among-map payload_of (Looked asks.element z.0 t (z.1).0) run asks.among)) in
       record {
         activation = told.activation;
         row = told.row;
@@ -542,16 +588,20 @@ module _ (S : Source) (g : Parts) (number : ℕ → ℕ → ℕ) (numbered : Num
         value = v;
         is = says ∙ ap (λ u. Token u Zero v) told.is;
         is_part = part_of told.within (gets_reply told.node);
-        way = by_reply told.activation told.row told.target told.index v told.within told.node (subst (λ u. Replies run u v e) told.is answer);
+        way = by_reply told.activation told.row told.target told.index v told.within told.node
+            (subst (λ u. Replies run u v e) told.is answer);
       }
 
-  by_fired : (e : Event) (x : Payload) (t : Tag) (f : Fired) (y : FiresAs run t f) → fired_event y ≡ e → Among x (sent_by g t f)
-      → SentSo S number run e x
+  by_fired : (e : Event) (x : Payload) (t : Tag) (f : Fired) (y : FiresAs run t f) → fired_event y ≡ e
+      → Among x (sent_by g t f) → SentSo S number run e x
   by_fired e x t f y is h = by (sent_as g t f x h)
     where
-      starting : (c : Context) (z : FiresAs run t (Entered c)) → fired_event z ≡ e → Starts (op_at g t.instr) t c x → CameBy S number run e x
-      starting c z same (first b back names_are says) = came_first e x t c b back (opening e t c z same b back names_are) says
-      starting c z same (second b back names_are says) = came_second e x t c b back (opening e t c z same b back names_are) says
+      starting : (c : Context) (z : FiresAs run t (Entered c)) → fired_event z ≡ e → Starts (op_at g t.instr) t c x
+          → CameBy S number run e x
+      starting c z same (first b back names_are says) =
+          came_first e x t c b back (opening e t c z same b back names_are) says
+      starting c z same (second b back names_are says) =
+          came_second e x t c b back (opening e t c z same b back names_are) says
 
       so : {k : Fired} → f ≡ k → (w : FiresAs run t k) × (fired_event w ≡ e)
       so fired_so = subst (λ z. (w : FiresAs run t z) × (fired_event w ≡ e)) fired_so (y, is)
@@ -560,7 +610,8 @@ module _ (S : Source) (g : Parts) (number : ℕ → ℕ → ℕ) (numbered : Num
       by (along_arc b v d gives among says) = as_token (along e x t f b v y is gives d among says)
       by (moving k v d fired_so among says) = let z = so fired_so in as_token (goes_on e x t k v z.0 z.1 d among says)
       by (to_tag u v fired_so says) = let z = so fired_so in as_token (came_to_tag e x t u v z.0 z.1 says)
-      by (to_start c fired_so h) = let z = so fired_so in as_token (starting c z.0 z.1 (starts_as t c x (op_at g t.instr) h))
+      by (to_start c fired_so h) =
+          let z = so fired_so in as_token (starting c z.0 z.1 (starts_as t c x (op_at g t.instr) h))
       by (reading c u fired_so says) = let z = so fired_so in as_read (came_asking e x t c u z.0 z.1 says)
       by (writing c v u fired_so says) = let z = so fired_so in as_write (came_storing e x t c v u z.0 z.1 says)
 

@@ -1,4 +1,5 @@
--- What sends to a tag of its own, and into a context: the way back of a block, arguments, and the first values and imports of a loop.
+-- What sends to a tag of its own, and into a context: the way back of a block, arguments, and the first values and
+-- imports of a loop.
 use Rattle.std.proofs.Common.{◌≡◌, ℕ, suc, ◌<◌, Bool, true, length, refl, sym, ◌∙◌, ap}
 use Rattle.id_value.proofs.AmongLemmas.{Among-from_at}
 use Rattle.id_table.specs.declared.row.Region.{Region}
@@ -17,10 +18,13 @@ use Rattle.id_build.specs.Rows.{called, loop_entries, node, op_by, param_of}
 use Rattle.id_laws.specs.Activations.{Begins}
 use Rattle.id_laws.specs.Topics.{IsPart, Turned, WayBack, ContextOf, topic_at, wants}
 use Rattle.id_laws.specs.Ways.{SendsTo, of_argument, of_entry}
-use Rattle.id_laws.proofs.Rows.Arcs.{Does, starts, returns, enters, constant, unary, binary, turns_on, hands, joins, opens, passes, gets, names, answers}
-use Rattle.id_laws.proofs.Rows.Arcs.{sends_in, gives_back, varies, takes_in, moves_on, moves_name, advances, resets, gets_last, part_of}
+use Rattle.id_laws.proofs.Rows.Arcs.{Does, starts, returns, enters, constant, unary, binary, turns_on, hands, joins}
+use Rattle.id_laws.proofs.Rows.Arcs.{opens, passes, gets, names, answers}
+use Rattle.id_laws.proofs.Rows.Arcs.{sends_in, gives_back, varies, takes_in, moves_on, moves_name, advances, resets}
+use Rattle.id_laws.proofs.Rows.Arcs.{gets_last, part_of}
 use Rattle.id_laws.proofs.Rows.Arcs.{allocates, addresses, fetches, gets_reply, stores}
-use Rattle.id_laws.proofs.Rows.Arcs.{bounds_meet, begins_index, carries, meets_bound, goes_further, hands_index, has_one, adds_one}
+use Rattle.id_laws.proofs.Rows.Arcs.{bounds_meet, begins_index, carries, meets_bound, goes_further, hands_index}
+use Rattle.id_laws.proofs.Rows.Arcs.{has_one, adds_one}
 use Rattle.id_laws.proofs.Rows.Assumed.{IsKnown}
 use Rattle.id_laws.proofs.Rows.Loops.{loop_of_start}
 use Rattle.id_laws.proofs.Rows.LoopRows.{loop_merge}
@@ -31,8 +35,8 @@ true_false : true ≡ Rattle.std.proofs.Common.false → ⊥
 true_false h = cc
 
 -- a `back` is the second part of a block's head
-pub is_back : (P : Checked) (number : ℕ → ℕ → ℕ) (part n : ℕ) (o : Form) {k : PortKind} → Does P n part o → op_by number o ≡ op.Back k
-    → (part ≡ 1) × (begins_block (node P n) ≡ true)
+pub is_back : (P : Checked) (number : ℕ → ℕ → ℕ) (part n : ℕ) (o : Form) {k : PortKind} → Does P n part o
+    → op_by number o ≡ op.Back k → (part ≡ 1) × (begins_block (node P n) ≡ true)
 is_back P number part n o (starts is) e = cc
 is_back P number part n o (returns is) e = (refl, ap begins_block is)
 is_back P number part n o (enters is) e = cc
@@ -71,13 +75,15 @@ is_back P number part n o (adds_one is) e = cc
 is_back P number part n o (answers is) e = cc
 
 -- it wants the way back of the block
-pub wants_back : (P : Checked) (n : ℕ) (r : Region) (m : Node) → begins_block m ≡ true → wants P n r m 1 Zero ≡ WayBack n
+pub wants_back : (P : Checked) (n : ℕ) (r : Region) (m : Node) → begins_block m ≡ true
+    → wants P n r m 1 Zero ≡ WayBack n
 wants_back P n r Head e = refl
 wants_back P n r (LoopHead s) e = refl
 wants_back P n r _ e = absurd (true_false (sym e))
 
 -- its first part wants a signal
-pub wants_signal : (P : Checked) (n : ℕ) (r : Region) (m : Node) → begins_block m ≡ true → wants P n r m 0 Zero ≡ Turned (top n)
+pub wants_signal : (P : Checked) (n : ℕ) (r : Region) (m : Node) → begins_block m ≡ true
+    → wants P n r m 0 Zero ≡ Turned (top n)
 wants_signal P n r Head e = refl
 wants_signal P n r (LoopHead s) e = refl
 wants_signal P n r _ e = absurd (true_false (sym e))
@@ -90,8 +96,8 @@ pub record Passing (P : Checked) (number : ℕ → ℕ → ℕ) (n j target : �
   pub sends : SendsTo P n j opener row part
   pub goes : target ≡ number row part
 
-pub is_send : (P : Checked) (number : ℕ → ℕ → ℕ) (part n : ℕ) (o : Form) (k : PortKind) (target : ℕ) → n < length (rows P) → Does P n part o
-    → op_by number o ≡ op.Send k target → Passing P number n part target
+pub is_send : (P : Checked) (number : ℕ → ℕ → ℕ) (part n : ℕ) (o : Form) (k : PortKind) (target : ℕ)
+    → n < length (rows P) → Does P n part o → op_by number o ≡ op.Send k target → Passing P number n part target
 is_send P number part n o k target within (starts is) e = cc
 is_send P number part n o k target within (returns is) e = cc
 is_send P number part n o k target within (enters is) e = cc
@@ -142,8 +148,8 @@ pub record Opens (P : Checked) (number : ℕ → ℕ → ℕ) (n part b back : �
   pub first : b ≡ number head 0
   pub returns_to : back ≡ number end 0
 
-pub is_enter : (P : Checked) (number : ℕ → ℕ → ℕ) (part n : ℕ) (o : Form) (b back : ℕ) → Does P n part o → op_by number o ≡ op.Enter b back
-    → Opens P number n part b back
+pub is_enter : (P : Checked) (number : ℕ → ℕ → ℕ) (part n : ℕ) (o : Form) (b back : ℕ) → Does P n part o
+    → op_by number o ≡ op.Enter b back → Opens P number n part b back
 is_enter P number part n o b back (starts is) e = cc
 is_enter P number part n o b back (returns is) e = cc
 is_enter P number part n o b back (enters is) e = cc
@@ -192,7 +198,8 @@ pub record Fetches (P : Checked) (number : ℕ → ℕ → ℕ) (n part r : ℕ)
   pub second : part ≡ 1
   pub reply : r ≡ number n 2
 
-pub is_fetch : {nested : _} (P : Checked) (number : ℕ → ℕ → ℕ) (part n : ℕ) (o : Form) (r : ℕ) → Does P n part o → op_by number o ≡ op.Fetch nested r → Fetches P number n part r
+pub is_fetch : {nested : _} (P : Checked) (number : ℕ → ℕ → ℕ) (part n : ℕ) (o : Form) (r : ℕ) → Does P n part o
+    → op_by number o ≡ op.Fetch nested r → Fetches P number n part r
 is_fetch P number part n o r (fetches {t = t} {i = i} is) e =
     let same : number n 2 ≡ r = cc in
     record { target = t; index = i; node = is; second = refl; reply = sym same }
@@ -238,7 +245,8 @@ pub record Stores (P : Checked) (n part : ℕ) : Type 0 where
   pub node : node P n ≡ Store address stored
   pub first : part ≡ 0
 
-pub is_store : {nested : _} (P : Checked) (number : ℕ → ℕ → ℕ) (part n : ℕ) (o : Form) → Does P n part o → op_by number o ≡ op.Store nested → Stores P n part
+pub is_store : {nested : _} (P : Checked) (number : ℕ → ℕ → ℕ) (part n : ℕ) (o : Form) → Does P n part o
+    → op_by number o ≡ op.Store nested → Stores P n part
 is_store P number part n o (stores {a = a} {v = v} is) e = record { address = a; stored = v; node = is; first = refl }
 is_store P number part n o (starts is) e = cc
 is_store P number part n o (returns is) e = cc
@@ -283,8 +291,8 @@ pub record Allocates (P : Checked) (nested : Bool) (n part : ℕ) : Type 0 where
   pub node : node P n ≡ Array nested low high
   pub first : part ≡ 0
 
-pub is_alloc : {nested : Bool} (P : Checked) (number : ℕ → ℕ → ℕ) (part n : ℕ) (o : Form) → Does P n part o → op_by number o ≡ op.Alloc nested
-    → Allocates P nested n part
+pub is_alloc : {nested : Bool} (P : Checked) (number : ℕ → ℕ → ℕ) (part n : ℕ) (o : Form) → Does P n part o
+    → op_by number o ≡ op.Alloc nested → Allocates P nested n part
 is_alloc {nested} P number part n o (allocates {nested = m} {a = a} {b = b} is) e =
     let same : m ≡ nested = cc in
     record { low = a; high = b; node = is ∙ ap (λ z. Array z a b) same; first = refl }
@@ -339,7 +347,8 @@ pub sent_part : {P : Checked} (known : IsKnown P) {m j i n part : ℕ} → Sends
 sent_part {P} known (of_argument {e = e} {k = k} {v = v} within is) =
     let b = param_of P e k in
     let goes = known.passed _ e k v within is in
-    let param = a_param (rows P) (called P e) (length (rows P)) b (Among-from_at b (params_at (rows P) (called P e)) k goes.0) in
+    let param =
+    a_param (rows P) (called P e) (length (rows P)) b (Among-from_at b (params_at (rows P) (called P e)) k goes.0) in
     part_of param.within (enters (param.param).is)
 sent_part {P} known (of_entry k q within is at) =
     let l = loop_of_start known within is in
@@ -347,12 +356,14 @@ sent_part {P} known (of_entry k q within is at) =
     part_of z.within z.does
 
 -- the head of a block has a trigger and a way back
-second_part : {P : Checked} {h : ℕ} (m : Node) → node P h ≡ m → begins_block m ≡ true → h < length (rows P) → IsPart P h 1
+second_part : {P : Checked} {h : ℕ} (m : Node) → node P h ≡ m → begins_block m ≡ true → h < length (rows P)
+    → IsPart P h 1
 second_part Head is b less = part_of less (returns is)
 second_part (LoopHead s) is b less = part_of less (gives_back is)
 second_part _ is b less = absurd (true_false (sym b))
 
-pub head_parts : {P : Checked} (known : IsKnown P) {n h q : ℕ} → n < length (rows P) → Begins P n h q → IsPart P h 0 × IsPart P h 1
+pub head_parts : {P : Checked} (known : IsKnown P) {n h q : ℕ} → n < length (rows P) → Begins P n h q
+    → IsPart P h 0 × IsPart P h 1
 head_parts {P} known {h = h} within begins =
     let z = begun_at known within begins in
     (part_of z.head_within (starts z.head), second_part (node P h) refl z.head z.head_within)

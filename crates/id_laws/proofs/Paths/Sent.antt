@@ -8,8 +8,8 @@ use Rattle.id_instr.specs.Graph.{Parts, arcs_on}
 use Rattle.id_build.specs.Schemas.{Sends}
 
 -- the destination is one of the instruction's of this number, on the side
-pub sends_there : (g : Parts) (m : ℕ) (b : Truth) (d : Dest) (o : Option Instr) → slice_get g.instrs m ≡ o → Among d (option_map_or (arcs_on b) o [])
-    → Sends g m b d
+pub sends_there : (g : Parts) (m : ℕ) (b : Truth) (d : Dest) (o : Option Instr) → slice_get g.instrs m ≡ o
+    → Among d (option_map_or (arcs_on b) o []) → Sends g m b d
 sends_there g m b d None is h = absurd h
 sends_there g m b d (Some i) is h = record { instr = i; at = is; lists = h }
 

@@ -48,7 +48,8 @@ same_structure_out : {run : List Event} {t u : Tag} {y z : Structure} (x : Fires
     → fired_event x ≡ fired_event w → y ≡ z
 same_structure_out x w e = cc
 
-module _ (S : Source) (known : IsKnown S.checked) (g : Parts) (number : ℕ → ℕ → ℕ) (numbered : Numbered S.checked g number) (count : ℕ)
+module _ (S : Source) (known : IsKnown S.checked) (g : Parts) (number : ℕ → ℕ
+    → ℕ) (numbered : Numbered S.checked g number) (count : ℕ)
     (s : World) (run : List Event) (r : Reach g S.inputs count s run) (backed : IsBacked S run) where
   abbrev P : Checked
   P = S.checked
@@ -75,13 +76,15 @@ module _ (S : Source) (known : IsKnown S.checked) (g : Parts) (number : ℕ → 
   once = backed.once
 
   -- live activations with one path are one
-  pub one_activation : {a b : Activation} {p : Path} {q q' : Region} → Live S number run a q → Live S number run b q' → PathOf S number run a p
-      → PathOf S number run b p → a ≡ b
+  pub one_activation : {a b : Activation} {p : Path} {q q' : Region} → Live S number run a q → Live S number run b q'
+      → PathOf S number run a p → PathOf S number run b p → a ≡ b
   one_activation live live' at at' =
       let apart = contexts_apart g S.inputs count s run r in
       paths_apart S known g number numbered run apart once
-      (λ a m i q c within is o. main_first S known number run g numbered apart (opening_live S known g number numbered run count s r backed a m i q c within is o))
-      at at' (main_first S known number run g numbered apart live) (main_first S known number run g numbered apart live')
+      (λ a m i q c within is o. main_first S known number run g numbered apart
+      (opening_live S known g number numbered run count s r backed a m i q c within is o))
+      at at' (main_first S known number run g numbered apart live)
+      (main_first S known number run g numbered apart live')
 
   -- the thing at the row n, under the activation, stands at the site
   pub record Stands (a : Activation) (n : ℕ) (x : Site) : Type 0 where
@@ -99,7 +102,8 @@ module _ (S : Source) (known : IsKnown S.checked) (g : Parts) (number : ℕ → 
       (one_activation u.live w.live u.path_of at', (known.apart).apart n m u.within w.within u.thing w.thing places)
 
   named_stands : {z : Structure} {x : Site} (y : Named S number run z x) → Stands y.activation y.row x
-  named_stands y = record { within = y.within; thing = ap is_thing y.node; live = y.live; path_of = y.path_of; place = y.place }
+  named_stands y =
+      record { within = y.within; thing = ap is_thing y.node; live = y.live; path_of = y.path_of; place = y.place }
 
   -- so a name is that of one structure
   pub one_name : {z z' : Structure} {x x' : Site} → Named S number run z x → Named S number run z' x' → x ≡ x' → z ≡ z'
@@ -111,16 +115,22 @@ module _ (S : Source) (known : IsKnown S.checked) (g : Parts) (number : ℕ → 
 
   -- what was asked for and what was written tell of their fetches and stores
   pub read_told : {c : Cell} {t : Tag} {a : ReadAnswer} → ReadBy run c t a → ToldRead S number run c t
-  read_told {c} {t} {a} x = all_tell S known g number numbered run count s r backed (Read c t) (inr (Among-map payload_of (Looked x.element c t a) run x.among))
+  read_told {c} {t} {a} x =
+      all_tell S known g number numbered run count s r backed (Read c t)
+      (inr (Among-map payload_of (Looked x.element c t a) run x.among))
 
-  pub written_told : {c : Cell} {v : Value} {w : Tag} {a : WriteAnswer} → WrittenBy run c v w a → ToldWrite S number run c v w
+  pub written_told : {c : Cell} {v : Value} {w : Tag} {a : WriteAnswer} → WrittenBy run c v w a
+      → ToldWrite S number run c v w
   written_told {c} {v} {w} {a} x =
-      all_tell S known g number numbered run count s r backed (Write c v w) (inr (Among-map payload_of (Wrote x.element c v w a) run x.among))
+      all_tell S known g number numbered run count s r backed (Write c v w)
+      (inr (Among-map payload_of (Wrote x.element c v w a) run x.among))
 
   -- where a fetch stands is the site of its reply
   pub fetch_site : {c : Cell} {t : Tag} (x : ToldRead S number run c t) → site_of t ≡ site x.path (place P x.row)
   fetch_site x =
-      ap site_of x.is ∙ site_shown S known g number numbered count s run r backed x.activation x.row 2 x.path (part_of x.within (gets_reply x.node)) x.live x.path_of
+      ap site_of x.is
+      ∙ site_shown S known g number numbered count s run r backed x.activation x.row 2 x.path
+      (part_of x.within (gets_reply x.node)) x.live x.path_of
       ∙ ap (λ m. site x.path (place_shown P (place P x.row) m)) x.node
 
   pub fetch_stands : {c : Cell} {t : Tag} (x : ToldRead S number run c t) → Stands x.activation x.row (site_of t)
@@ -129,36 +139,46 @@ module _ (S : Source) (known : IsKnown S.checked) (g : Parts) (number : ℕ → 
       (record { within = x.within; thing = ap is_thing x.node; live = x.live; path_of = x.path_of; place = refl })
 
   -- it asks for what is shown that it asks for
-  pub ask_shown : {c : Cell} {t : Tag} → ToldRead S number run c t → Holds S (ask (site_of t) (name_of c.structure) c.index)
+  pub ask_shown : {c : Cell} {t : Tag} → ToldRead S number run c t
+      → Holds S (ask (site_of t) (name_of c.structure) c.index)
   ask_shown {c} {t} x =
       let named = name_shown S known g number numbered count s run r backed c.structure x.name x.named in
-      subst (λ (z : Site × Site). Holds S (ask z.0 z.1 c.index)) {x = (site x.path (place P x.row), x.name)} {y = (site_of t, name_of c.structure)}
+      subst (λ (z : Site × Site). Holds S (ask z.0 z.1 c.index)) {x = (site x.path (place P x.row), x.name)} {y =
+      (site_of t, name_of c.structure)}
       (λ i. (sym (fetch_site x) i, sym named i)) x.holds
 
   -- one reply is for each fetch that stands somewhere
-  pub one_fetch : {c d : Cell} {t u : Tag} → ToldRead S number run c t → ToldRead S number run d u → site_of t ≡ site_of u → t ≡ u
+  pub one_fetch : {c d : Cell} {t u : Tag} → ToldRead S number run c t → ToldRead S number run d u
+      → site_of t ≡ site_of u → t ≡ u
   one_fetch x y same =
       let z = one_there (fetch_stands x) (fetch_stands y) same in
       x.is ∙ (λ i. tag_in (z.0 i) (number (z.1 i) 2)) ∙ sym y.is
 
   -- so it is with stores
-  pub store_site : {c : Cell} {v : Value} {w : Tag} (x : ToldWrite S number run c v w) → site_of w ≡ site x.path (place P x.row)
+  pub store_site : {c : Cell} {v : Value} {w : Tag} (x : ToldWrite S number run c v w)
+      → site_of w ≡ site x.path (place P x.row)
   store_site x =
-      ap site_of x.is ∙ site_shown S known g number numbered count s run r backed x.activation x.row 0 x.path (part_of x.within (stores x.node)) x.live x.path_of
+      ap site_of x.is
+      ∙ site_shown S known g number numbered count s run r backed x.activation x.row 0 x.path
+      (part_of x.within (stores x.node)) x.live x.path_of
       ∙ ap (λ m. site x.path (place_shown P (place P x.row) m)) x.node
 
-  pub store_stands : {c : Cell} {v : Value} {w : Tag} (x : ToldWrite S number run c v w) → Stands x.activation x.row (site_of w)
+  pub store_stands : {c : Cell} {v : Value} {w : Tag} (x : ToldWrite S number run c v w)
+      → Stands x.activation x.row (site_of w)
   store_stands x =
       subst (Stands x.activation x.row) (sym (store_site x))
       (record { within = x.within; thing = ap is_thing x.node; live = x.live; path_of = x.path_of; place = refl })
 
-  pub put_shown : {c : Cell} {v : Value} {w : Tag} (x : ToldWrite S number run c v w) → Holds S (put (name_of c.structure) c.index x.value (site_of w))
+  pub put_shown : {c : Cell} {v : Value} {w : Tag} (x : ToldWrite S number run c v w)
+      → Holds S (put (name_of c.structure) c.index x.value (site_of w))
   put_shown {c} {v} {w} x =
       let named = name_shown S known g number numbered count s run r backed c.structure x.name x.named in
-      subst (λ (z : Site × Site). Holds S (put z.1 c.index x.value z.0)) {x = (site x.path (place P x.row), x.name)} {y = (site_of w, name_of c.structure)}
+      subst (λ (z : Site × Site). Holds S (put z.1 c.index x.value z.0)) {x =
+      (site x.path (place P x.row), x.name)} {y = (site_of w, name_of c.structure)}
       (λ i. (sym (store_site x) i, sym named i)) x.holds
 
-  pub one_store : {c d : Cell} {v u : Value} {w x : Tag} → ToldWrite S number run c v w → ToldWrite S number run d u x → site_of w ≡ site_of x → w ≡ x
+  pub one_store : {c d : Cell} {v u : Value} {w x : Tag} → ToldWrite S number run c v w → ToldWrite S number run d u x
+      → site_of w ≡ site_of x → w ≡ x
   one_store y z same =
       let k = one_there (store_stands y) (store_stands z) same in
       y.is ∙ (λ i. tag_in (k.0 i) (number (k.1 i) 0)) ∙ sym z.is

@@ -20,7 +20,8 @@ use Rattle.id_record.specs.Sends.{beside, started, token_to}
 -- the message is one of the two that an `enter` starts its block with
 pub data Starts (o : Option Op) (t : Tag) (c : Context) (x : Payload) : Type 0 where
   first : (b r : ℕ) → o ≡ Some (op.Enter b r) → x ≡ Token (tag_within c b) Zero value.Signal → Starts o t c x
-  second : (b r : ℕ) → o ≡ Some (op.Enter b r) → x ≡ Token (tag_within c (b + 1)) Zero (value.Continuation (beside t r)) → Starts o t c x
+  second : (b r : ℕ) → o ≡ Some (op.Enter b r) → x ≡ Token (tag_within c (b + 1)) Zero (value.Continuation (beside t r))
+      → Starts o t c x
 
 pub starts_as : (t : Tag) (c : Context) (x : Payload) (o : Option Op) → Among x (started o t c) → Starts o t c x
 starts_as t c x (Some (op.Enter b r)) (inl e) = first b r refl e

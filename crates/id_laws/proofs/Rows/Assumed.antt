@@ -9,7 +9,8 @@ use Rattle.id_value.specs.declared.Constant.{Constant}
 use Rattle.id_value.specs.declared.UnaryOp.{UnaryOp}
 use Rattle.id_value.specs.declared.BinaryOp.{BinaryOp}
 use Rattle.id_table.specs.declared.row.Node.{Node}
-use Rattle.id_table.specs.declared.row.Node.TheVariants.{Param, Literal, Name, Unary, Binary, If, Enter, Arg, Call, Start, LoopHead, Turn, Next}
+use Rattle.id_table.specs.declared.row.Node.TheVariants.{Param, Literal, Name, Unary, Binary, If, Enter, Arg, Call}
+use Rattle.id_table.specs.declared.row.Node.TheVariants.{Start, LoopHead, Turn, Next}
 use Rattle.id_table.specs.declared.row.Node.TheVariants.{Switches, Bounds, Carried, Index}
 use Rattle.id_table.specs.declared.row.Node.TheVariants.{Block, Binding, Array, Address, Store}
 use Rattle.id_table.specs.Rows.{at, top}
@@ -48,7 +49,8 @@ pub record IsKnown (P : Checked) : Type 0 where
   -- main is a definition
   pub main : IsDefOf (rows P) P.main (main_head P)
   -- a parameter stands right in its procedure's region
-  pub params : (b x : ℕ) (k : Kind) → b < length (rows P) → node P b ≡ Param x k → region P b ≡ top (at (rows P) b).block
+  pub params : (b x : ℕ) (k : Kind) → b < length (rows P) → node P b ≡ Param x k
+      → region P b ≡ top (at (rows P) b).block
   -- each name has a binder, which its region sees; what switches hand on is seen where they stand, and the names of it
   -- have binders
   pub bound : (n x : ℕ) → n < length (rows P) → node P n ≡ Name x
@@ -66,37 +68,51 @@ pub record IsKnown (P : Checked) : Type 0 where
   -- the head of a loop has one loop more round it than its `Start`
   pub loop_depth : (h s : ℕ) → h < length (rows P) → node P h ≡ LoopHead s → depth (rows P) h ≡ suc (depth (rows P) s)
   -- the outer name of a `next` has the binder of the variable's first value
-  pub first_bound : (m x k o v : ℕ) → m < length (rows P) → node P m ≡ Next x k o v → binder P o ≡ Some (first_binder P m)
+  pub first_bound : (m x k o v : ℕ) → m < length (rows P) → node P m ≡ Next x k o v
+      → binder P o ≡ Some (first_binder P m)
   -- the operands of a row are expressions
   pub operands : (n a : ℕ) → n < length (rows P) → HasOperand (node P n) a → is_expression (node P a) ≡ true
-  -- the kinds of rows: a name's is its binder's, a block's its body's, a binding's its expression's, a conditional's that of both
+  -- the kinds of rows: a name's is its binder's, a block's its body's, a binding's its expression's, a conditional's
+  -- that of both
   -- arms; a predicate is a truth value
   pub param_kind : (n x : ℕ) (k : Kind) → n < length (rows P) → node P n ≡ Param x k → kind P n ≡ Some k
-  pub literal_kind : (n : ℕ) (c : Constant) → n < length (rows P) → node P n ≡ Literal c → kind P n ≡ Some (constant_kind c)
+  pub literal_kind : (n : ℕ) (c : Constant) → n < length (rows P) → node P n ≡ Literal c
+      → kind P n ≡ Some (constant_kind c)
   pub name_kind : (n x b : ℕ) → n < length (rows P) → node P n ≡ Name x → binder P n ≡ Some b → kind P n ≡ kind P b
-  pub unary_kinds : (n a : ℕ) (o : UnaryOp) → n < length (rows P) → node P n ≡ Unary o a → kind P n ≡ Some (unary_kind o)
-  pub binary_kinds : (n a b : ℕ) (o : BinaryOp) → n < length (rows P) → node P n ≡ Binary o a b → kind P n ≡ Some (binary_kind o)
+  pub unary_kinds : (n a : ℕ) (o : UnaryOp) → n < length (rows P) → node P n ≡ Unary o a
+      → kind P n ≡ Some (unary_kind o)
+  pub binary_kinds : (n a b : ℕ) (o : BinaryOp) → n < length (rows P) → node P n ≡ Binary o a b
+      → kind P n ≡ Some (binary_kind o)
   pub test_kind : (n t : ℕ) → n < length (rows P) → Tests P n t → kind P t ≡ Some kinds.Bool
-  pub arm_kinds : (n s x y : ℕ) → n < length (rows P) → node P n ≡ If s x y → (kind P n ≡ kind P x) × (kind P n ≡ kind P y)
+  pub arm_kinds : (n s x y : ℕ) → n < length (rows P) → node P n ≡ If s x y
+      → (kind P n ≡ kind P x) × (kind P n ≡ kind P y)
   pub index_kind : (n x : ℕ) → n < length (rows P) → node P n ≡ Index x → kind P n ≡ Some kinds.Int
   pub carried_kind : (n : ℕ) (k : Kind) → n < length (rows P) → node P n ≡ Carried k → kind P n ≡ Some k
-  pub array_kind : {nested : Bool} (n a b : ℕ) → n < length (rows P) → node P n ≡ Array nested a b → kind P n ≡ Some (kind_made nested)
+  pub array_kind : {nested : Bool} (n a b : ℕ) → n < length (rows P) → node P n ≡ Array nested a b
+      → kind P n ≡ Some (kind_made nested)
   -- a fetch, and the address of a store, has the kind of what the elements of its target hold
   pub cell_kind : (n t i : ℕ) → n < length (rows P) → Addresses P n t i → kind P n ≡ Some (kind_within (kind P t))
-  -- what names a cell is a structure with a number, and bounds are numbers; what is stored is of the kind of its address
-  pub range_kinds : (n a b : ℕ) → n < length (rows P) → node P n ≡ Bounds a b → (kind P a ≡ Some kinds.Int) × (kind P b ≡ Some kinds.Int)
-  pub bound_kinds : {nested : Bool} (n a b : ℕ) → n < length (rows P) → node P n ≡ Array nested a b → (kind P a ≡ Some kinds.Int) × (kind P b ≡ Some kinds.Int)
-  pub cell_kinds : (n t i : ℕ) → n < length (rows P) → Addresses P n t i → (nested : Bool) × (kind P t ≡ Some (kind_made nested)) × (kind P i ≡ Some kinds.Int)
-  pub stored_kind : (n a v t i : ℕ) → n < length (rows P) → node P n ≡ Store a v → a < length (rows P) → node P a ≡ Address t i → kind P v ≡ kind P a
+  -- what names a cell is a structure with a number, and bounds are numbers; what is stored is of the kind of its
+  -- address
+  pub range_kinds : (n a b : ℕ) → n < length (rows P) → node P n ≡ Bounds a b
+      → (kind P a ≡ Some kinds.Int) × (kind P b ≡ Some kinds.Int)
+  pub bound_kinds : {nested : Bool} (n a b : ℕ) → n < length (rows P) → node P n ≡ Array nested a b
+      → (kind P a ≡ Some kinds.Int) × (kind P b ≡ Some kinds.Int)
+  pub cell_kinds : (n t i : ℕ) → n < length (rows P) → Addresses P n t i
+      → (nested : Bool) × (kind P t ≡ Some (kind_made nested)) × (kind P i ≡ Some kinds.Int)
+  pub stored_kind : (n a v t i : ℕ) → n < length (rows P) → node P n ≡ Store a v → a < length (rows P)
+      → node P a ≡ Address t i → kind P v ≡ kind P a
   pub block_kind : (n b : ℕ) → n < length (rows P) → node P n ≡ Block b → kind P n ≡ kind P b
   pub binding_kind : (n x a : ℕ) → n < length (rows P) → node P n ≡ Binding x a → kind P n ≡ kind P a
   -- the body of a definition is of its kind
   pub result_kind : (n h : ℕ) (d : IsDefOf (rows P) n h) → kind P d.body ≡ Some d.result
   -- what an `Enter` begins ends at its call, and it enters the definition that its name is bound to
   pub call_end : (e x : ℕ) → e < length (rows P) → node P e ≡ Enter x → IsCallOf (rows P) (end_of P e) e
-  pub callee : (e x : ℕ) → e < length (rows P) → node P e ≡ Enter x → (d : ℕ) × (binder P e ≡ Some d) × IsDefOf (rows P) d (called P e)
+  pub callee : (e x : ℕ) → e < length (rows P) → node P e ≡ Enter x
+      → (d : ℕ) × (binder P e ≡ Some d) × IsDefOf (rows P) d (called P e)
   -- each argument goes to the parameter of its index, whose kind its value has
   pub passed : (m e k v : ℕ) → m < length (rows P) → node P m ≡ Arg e k v
       → (slice_get (params_at (rows P) (called P e)) k ≡ Some (param_of P e k)) × (kind P v ≡ kind P (param_of P e k))
   -- a call is of the kind of its procedure's result
-  pub call_kind : (n e c x d : ℕ) (h : IsDefOf (rows P) d (called P e)) → n < length (rows P) → node P n ≡ Call e c → kind P n ≡ Some h.result
+  pub call_kind : (n e c x d : ℕ) (h : IsDefOf (rows P) d (called P e)) → n < length (rows P) → node P n ≡ Call e c
+      → kind P n ≡ Some h.result

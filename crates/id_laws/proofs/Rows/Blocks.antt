@@ -1,5 +1,6 @@
 -- The heads of a table, those of loops, and the parameters of each: each stands once in its list.
-use Rattle.std.proofs.Common.{◌≡◌, ◌⊎◌, inl, inr, ℕ, zero, suc, ◌<◌, ◌&&◌, Bool, true, false, cond, List, [], ◌∷◌, ◌++◌, map, nat_eq, refl, sym, ◌∙◌, ap}
+use Rattle.std.proofs.Common.{◌≡◌, ◌⊎◌, inl, inr, ℕ, zero, suc, ◌<◌, ◌&&◌, Bool, true, false, cond, List, [], ◌∷◌, ◌++◌}
+use Rattle.std.proofs.Common.{map, nat_eq, refl, sym, ◌∙◌, ap}
 use Rattle.std.proofs.Common.{subst, arith, length}
 use Rattle.std.specs.Prelude.{filter}
 use Rattle.std.proofs.lemmas.Bool.{cases_eq, eqb-true, eq-eqb}
@@ -78,7 +79,8 @@ to_passing : (f : ℕ → Bool) (n x : ℕ) → x < n → f x ≡ true → Among
 to_passing f zero x h e = absurd (omega (arith, h))
 to_passing f (suc i) x h e =
     elim (cases_eq x i) [
-      | inl is ↦ subst (λ y. Among y (passing f (suc i))) (sym is) (passing_new (f i) (passing f i) i (ap f (sym is) ∙ e))
+      | inl is ↦ subst (λ y. Among y (passing f (suc i))) (sym is)
+          (passing_new (f i) (passing f i) i (ap f (sym is) ∙ e))
       | inr other ↦ passing_old (f i) (passing f i) i x (to_passing f i x (less x i h other) e)
     ]
   where
@@ -93,7 +95,9 @@ passing_if false xs i d apart = d
 -- none is there twice
 passing_differ : (f : ℕ → Bool) (n : ℕ) → AllDiffer (passing f n)
 passing_differ f zero = tt
-passing_differ f (suc i) = passing_if (f i) (passing f i) i (passing_differ f i) (λ h. let z = in_passing f i i h in absurd (omega (arith, z.0)))
+passing_differ f (suc i) =
+    passing_if (f i) (passing f i) i (passing_differ f i) (λ h. let z = in_passing f i i h in
+    absurd (omega (arith, z.0)))
 
 -- ---- heads and parameters
 
@@ -101,9 +105,11 @@ heads_pass : (R : List Row) (n : ℕ) → heads_below R n ≡ passing (λ i. is_
 heads_pass R zero = refl
 heads_pass R (suc i) = ap (λ xs. cond (is_head (at R i).node) (xs ++ i ∷ []) xs) (heads_pass R i)
 
-params_pass : (R : List Row) (h n : ℕ) → params_below R h n ≡ passing (λ i. is_param (at R i).node && nat_eq (at R i).block h) n
+params_pass : (R : List Row) (h n : ℕ)
+    → params_below R h n ≡ passing (λ i. is_param (at R i).node && nat_eq (at R i).block h) n
 params_pass R h zero = refl
-params_pass R h (suc i) = ap (λ xs. cond (is_param (at R i).node && nat_eq (at R i).block h) (xs ++ i ∷ []) xs) (params_pass R h i)
+params_pass R h (suc i) =
+    ap (λ xs. cond (is_param (at R i).node && nat_eq (at R i).block h) (xs ++ i ∷ []) xs) (params_pass R h i)
 
 pub a_head : (R : List Row) (n h : ℕ) → Among h (heads_below R n) → (h < n) × ((at R h).node ≡ Head)
 a_head R n h among = let z = in_passing _ n h (subst (Among h) (heads_pass R n) among) in (z.0, head_is _ z.1)
@@ -130,7 +136,8 @@ a_param R h n b among =
     record { within = z.0; param = param_is _ both.0; block = eqb-true (at R b).block h both.1 }
 
 -- each parameter in the block of the head is in the list
-pub param_listed : (R : List Row) (h n b x : ℕ) (k : Kind) → b < n → (at R b).node ≡ Param x k → (at R b).block ≡ h → Among b (params_below R h n)
+pub param_listed : (R : List Row) (h n b x : ℕ) (k : Kind) → b < n → (at R b).node ≡ Param x k → (at R b).block ≡ h
+    → Among b (params_below R h n)
 param_listed R h n b x k less is block =
     subst (Among b) (sym (params_pass R h n))
     (to_passing (λ i. is_param (at R i).node && nat_eq (at R i).block h) n b less
@@ -156,7 +163,8 @@ all_listed P h within begins = go (node P h) refl begins
   where
     go : (m : Node) → node P h ≡ m → begins_block m ≡ true → Among h (all_heads P)
     go Head is b = Among-left h (heads_of (rows P)) (loop_heads P) (head_listed (rows P) (length (rows P)) h within is)
-    go (LoopHead s) is b = Among-right h (heads_of (rows P)) (loop_heads P) (loop_heads-has P h within (ap is_loop_head is))
+    go (LoopHead s) is b =
+        Among-right h (heads_of (rows P)) (loop_heads P) (loop_heads-has P h within (ap is_loop_head is))
     go _ is b = absurd (true_false (sym b))
 
 -- no two are one
@@ -179,13 +187,15 @@ dropped : {A : Type 0} (b : Bool) (x : A) (xs : List A) → (b ≡ true → ⊥)
 dropped true x xs e = absurd (e refl)
 dropped false x xs e = refl
 
-none_pass : {A B : Type 0} (f : B → Bool) (g : A → B) (xs : List A) → ((y : A) → Among y xs → f (g y) ≡ true → ⊥) → filter f (map g xs) ≡ []
+none_pass : {A B : Type 0} (f : B → Bool) (g : A → B) (xs : List A) → ((y : A) → Among y xs → f (g y) ≡ true → ⊥)
+    → filter f (map g xs) ≡ []
 none_pass f g [] none = refl
-none_pass f g (y ∷ xs) none = dropped (f (g y)) (g y) (filter f (map g xs)) (none y (inl refl)) ∙ none_pass f g xs (λ z h e. none z (inr h) e)
+none_pass f g (y ∷ xs) none =
+    dropped (f (g y)) (g y) (filter f (map g xs)) (none y (inl refl)) ∙ none_pass f g xs (λ z h e. none z (inr h) e)
 
 -- where one of them alone passes, it is what is left
-pub one_passes : {A B : Type 0} (f : B → Bool) (g : A → B) (xs : List A) (x : A) → AllDiffer xs → Among x xs → f (g x) ≡ true
-    → ((y : A) → Among y xs → f (g y) ≡ true → y ≡ x) → filter f (map g xs) ≡ g x ∷ []
+pub one_passes : {A B : Type 0} (f : B → Bool) (g : A → B) (xs : List A) (x : A) → AllDiffer xs → Among x xs
+    → f (g x) ≡ true → ((y : A) → Among y xs → f (g y) ≡ true → y ≡ x) → filter f (map g xs) ≡ g x ∷ []
 one_passes f g [] x d h e only = absurd h
 one_passes {A = A} f g (y ∷ xs) x d (inl is) e only =
     kept (f (g y)) (g y) (filter f (map g xs)) (ap (λ z. f (g z)) (sym is) ∙ e)

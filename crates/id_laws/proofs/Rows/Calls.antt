@@ -28,7 +28,16 @@ call_at {P} known {e} {x} within is =
     let c = known.call_end e x within is in
     let z = (known.table).enter_of (end_of P e) e c in
     let d = known.callee e x within is in
-    record { count = c.count; within = c.within; node = c.node; place = z.place; region = z.region; callee = d.0; bound = d.1; def = d.2 }
+    record {
+      count = c.count;
+      within = c.within;
+      node = c.node;
+      place = z.place;
+      region = z.region;
+      callee = d.0;
+      bound = d.1;
+      def = d.2;
+    }
 
 -- the definition stands where it says
 pub callee_stands : {P : Checked} {d h : ℕ} (x : IsDefOf (rows P) d h) → Stands P d (Def x.name h x.result x.body)
@@ -40,7 +49,8 @@ pub called_head : {P : Checked} (known : IsKnown P) {e x : ℕ} → e < length (
 called_head {P} known {e} within is =
     let def = (call_at known within is).def in
     let t = known.table in
-    let less = ((t.formed).each _ def.within).parts (called P e) (subst (λ m. HasPart m (called P e)) (sym def.node) (inl refl)) in
+    let less =
+    ((t.formed).each _ def.within).parts (called P e) (subst (λ m. HasPart m (called P e)) (sym def.node) (inl refl)) in
     (omega (arith, def.within, less.1), (t.head_is _ def.name (called P e) def.body def.result def.within def.node).0)
 
 -- a call at the row n is that of its `Enter`
@@ -72,7 +82,8 @@ pub record ArgAt (P : Checked) (m e v : ℕ) : Type 0 where
   pub value_region : region P v ≡ region P e
   pub region : region P m ≡ region P e
 
-pub arg_at : {P : Checked} (known : IsKnown P) {m e k v : ℕ} → m < length (rows P) → node P m ≡ Arg e k v → ArgAt P m e v
+pub arg_at : {P : Checked} (known : IsKnown P) {m e k v : ℕ} → m < length (rows P) → node P m ≡ Arg e k v
+    → ArgAt P m e v
 arg_at {P} known {m} {e} {k} {v} within is =
     let a = (known.table).arg_of m e k (record { value = v; within = within; node = is }) in
     let z = (known.table).enter_of a.row e a.call in
@@ -90,7 +101,8 @@ arg_at {P} known {m} {e} {k} {v} within is =
     }
 
 -- it has the place of the `Enter`
-pub arg_place : {P : Checked} (known : IsKnown P) {m e k v : ℕ} → m < length (rows P) → node P m ≡ Arg e k v → place P m ≡ place P e
+pub arg_place : {P : Checked} (known : IsKnown P) {m e k v : ℕ} → m < length (rows P) → node P m ≡ Arg e k v
+    → place P m ≡ place P e
 arg_place {P} known {m} {e} {k} {v} within is =
     let a = (known.table).arg_of m e k (record { value = v; within = within; node = is }) in
     (a.stands).place ∙ sym ((known.table).enter_of a.row e a.call).place
@@ -99,21 +111,24 @@ call_thing : {m : Rattle.id_table.specs.declared.row.Node.Node} {e c : ℕ} → 
 call_thing is = ap is_thing is
 
 -- two `Enter`s at one place are one
-pub one_enter_at : {P : Checked} (known : IsKnown P) {n n' x x' : ℕ} → n < length (rows P) → n' < length (rows P) → node P n ≡ Enter x → node P n' ≡ Enter x'
-    → place P n ≡ place P n' → n ≡ n'
+pub one_enter_at : {P : Checked} (known : IsKnown P) {n n' x x' : ℕ} → n < length (rows P) → n' < length (rows P)
+    → node P n ≡ Enter x → node P n' ≡ Enter x' → place P n ≡ place P n' → n ≡ n'
 one_enter_at {P} known {n} {n'} within within' is is' same =
     let c = call_at known within is in
     let d = call_at known within' is' in
-    let rows_are = (known.apart).apart (end_of P n) (end_of P n') c.within d.within (call_thing c.node) (call_thing d.node) (sym c.place ∙ same ∙ d.place) in
-    let both : Call n c.count ≡ Call n' d.count = sym c.node ∙ ap (Rattle.id_build.specs.Rows.node P) rows_are ∙ d.node in
+    let rows_are =
+    (known.apart).apart (end_of P n) (end_of P n') c.within d.within (call_thing c.node) (call_thing d.node)
+    (sym c.place ∙ same ∙ d.place) in
+    let both : Call n c.count ≡ Call n' d.count =
+    sym c.node ∙ ap (Rattle.id_build.specs.Rows.node P) rows_are ∙ d.node in
     cc
 
 some_is : {A : Type 0} {x y : A} → Some x ≡ Some y → x ≡ y
 some_is h = cc
 
 -- the definition that an `Enter`'s name is bound to is that which it calls
-pub called_is : {P : Checked} (known : IsKnown P) {e x f y g body : ℕ} {k : Kind} → e < length (rows P) → node P e ≡ Enter x → binder P e ≡ Some f
-    → Stands P f (Def y g k body) → called P e ≡ g
+pub called_is : {P : Checked} (known : IsKnown P) {e x f y g body : ℕ} {k : Kind} → e < length (rows P)
+    → node P e ≡ Enter x → binder P e ≡ Some f → Stands P f (Def y g k body) → called P e ≡ g
 called_is {P} known {e} {f = f} within is bound x =
     let c = call_at known within is in
     let same : c.callee ≡ f = some_is (sym c.bound ∙ bound) in

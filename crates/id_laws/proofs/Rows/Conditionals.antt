@@ -1,5 +1,6 @@
 -- What stands where in a conditional, and what a live arm says: that the predicate has spoken its truth value.
-use Rattle.std.proofs.Common.{◌≡◌, inl, inr, ℕ, ◌<◌, Bool as Truth, true, false, List, length, refl, sym, ◌∙◌, ap, subst, arith}
+use Rattle.std.proofs.Common.{◌≡◌, inl, inr, ℕ, ◌<◌, Bool as Truth, true, false, List, length, refl, sym, ◌∙◌, ap}
+use Rattle.std.proofs.Common.{subst, arith}
 use Rattle.id_table.specs.declared.row.Region.{Region}
 use Rattle.id_table.specs.declared.row.Node.{Node}
 use Rattle.id_table.specs.declared.row.Node.TheVariants.{Head, Split, If, Switches, Within}
@@ -15,7 +16,8 @@ use Rattle.id_build.specs.Rows.{node, origin}
 use Rattle.id_runs.specs.Activations.{Activation}
 use Rattle.id_runs.specs.Events.{Event, FiresOnce}
 use Rattle.id_runs.proofs.Givings.{gives_once}
-use Rattle.id_laws.specs.Activations.{main_head, Tests, of_arms, of_turns, Chosen, has_said, has_counted, GoesAt, Speaks, Live, at_start, on_side, entered, again}
+use Rattle.id_laws.specs.Activations.{main_head, Tests, of_arms, of_turns, Chosen, has_said, has_counted, GoesAt}
+use Rattle.id_laws.specs.Activations.{Speaks, Live, at_start, on_side, entered, again}
 use Rattle.id_laws.proofs.Rows.Assumed.{IsKnown}
 use Rattle.id_laws.proofs.Paths.Begun.{begun_at}
 use Rattle.id_laws.proofs.Rows.Loops.{loop_of_row}
@@ -48,7 +50,8 @@ test_at {P} known {n} {t} within (of_turns is) =
     }
 
 -- the predicate of a conditional is one
-pub arms_test : {P : Checked} (known : IsKnown P) {n t : ℕ} → n < length (rows P) → node P n ≡ Split t → is_expression (node P t) ≡ true
+pub arms_test : {P : Checked} (known : IsKnown P) {n t : ℕ} → n < length (rows P) → node P n ≡ Split t
+    → is_expression (node P t) ≡ true
 arms_test {P} known {n} {t} within is = known.operands n t within (subst (λ m. HasOperand m t) (sym is) refl)
 
 pub no_within : (m : Node) → is_expression m ≡ true → is_within m ≡ false
@@ -84,7 +87,8 @@ pub record Conditional (P : Checked) (n s x y : ℕ) : Type 0 where
   pub arm_expression : (b : Truth) → is_expression (Rattle.id_build.specs.Rows.node P (arm_of b x y)) ≡ true
   pub arm_region : (b : Truth) → Rattle.id_check.specs.Programs.region P (arm_of b x y) ≡ arm_at s b
 
-pub conditional : {P : Checked} (known : IsKnown P) {n s x y : ℕ} → n < length (rows P) → node P n ≡ If s x y → Conditional P n s x y
+pub conditional : {P : Checked} (known : IsKnown P) {n s x y : ℕ} → n < length (rows P) → node P n ≡ If s x y
+    → Conditional P n s x y
 conditional {P} known {n} {s} {x} {y} within is =
     let c : IsIfOf (rows P) n s = record { then = x; otherwise = y; within = within; node = is } in
     let z = (known.table).split_of n s c in
@@ -115,12 +119,14 @@ conditional {P} known {n} {s} {x} {y} within is =
     by_side C t f false = f
 
 -- the predicate chooses the arm
-pub chosen : {S : Source} {n s x y t : ℕ} (b : Truth) → Stands S.checked n (If s x y) → Stands S.checked s (Split t) → Chooses S n t b (arm_of b x y)
+pub chosen : {S : Source} {n s x y t : ℕ} (b : Truth) → Stands S.checked n (If s x y) → Stands S.checked s (Split t)
+    → Chooses S n t b (arm_of b x y)
 chosen true h k = then_arm h k
 chosen false h k = else_arm h k
 
 -- the predicate of the switches at the row n has chosen this side under the activation
-pub record ArmLive (S : Source) (number : ℕ → ℕ → ℕ) (run : List Event) (a : Activation) (n : ℕ) (b : Truth) : Type 0 where
+pub record ArmLive (S : Source) (number : ℕ → ℕ
+    → ℕ) (run : List Event) (a : Activation) (n : ℕ) (b : Truth) : Type 0 where
   pub test : ℕ
   pub tests : Tests S.checked n test
   pub live : Live S number run a (region S.checked n)
@@ -128,32 +134,46 @@ pub record ArmLive (S : Source) (number : ℕ → ℕ → ℕ) (run : List Event
   pub goes : GoesAt S number run a n b
 
 pub main_head_is : {P : Checked} (known : IsKnown P) → node P (main_head P) ≡ Head
-main_head_is {P} known = let d = known.main in ((known.table).head_is P.main d.name (main_head P) d.body d.result d.within d.node).0
+main_head_is {P} known =
+    let d = known.main in ((known.table).head_is P.main d.name (main_head P) d.body d.result d.within d.node).0
 
 -- the head of a region whose head stands in no loop's table is that of a live region
-pub arm_live : {S : Source} (known : IsKnown S.checked) {number : ℕ → ℕ → ℕ} {run : List Event} {a : Activation} {r : Region} {n t : ℕ} {b : Truth}
+pub arm_live : {S : Source} (known : IsKnown S.checked) {number : ℕ → ℕ
+    → ℕ} {run : List Event} {a : Activation} {r : Region} {n t : ℕ} {b : Truth}
     → Live S number run a r → r ≡ arm_at n b → Tests S.checked n t → ArmLive S number run a n b
 arm_live {S} known at_start is at =
-    absurd (tests_no_block at (ap (λ (z : Region). begins_block (node S.checked z.head)) (sym is) ∙ ap begins_block (main_head_is known)))
-arm_live {S} known {number} {run} {a} {n = n} {b = b} (on_side {n = m} {e = e} {b = c} within tests live says goes) is at =
-    subst (λ (z : Region). ArmLive S number run a z.head z.side) is (record { test = e; tests = tests; live = live; chosen = says; goes = goes })
+    absurd (tests_no_block at (ap (λ (z : Region). begins_block (node S.checked z.head)) (sym is)
+    ∙ ap begins_block (main_head_is known)))
+arm_live {S} known {number} {run} {a} {n = n} {b =
+    b} (on_side {n = m} {e = e} {b = c} within tests live says goes) is at =
+    subst (λ (z : Region). ArmLive S number run a z.head z.side) is (record {
+      test = e;
+      tests = tests;
+      live = live;
+      chosen = says;
+      goes = goes;
+    })
 arm_live {S} known (entered {n = m} within begins live opened) is at =
-    absurd (tests_no_block at (ap (λ (z : Region). begins_block (node S.checked z.head)) (sym is) ∙ (begun_at known within begins).head))
+    absurd (tests_no_block at (ap (λ (z : Region). begins_block (node S.checked z.head)) (sym is)
+    ∙ (begun_at known within begins).head))
 arm_live {S} known (again {n = m} {e = e} within is' live says goes) is at =
     let l = loop_of_row known (Switches e) within is' refl in
-    absurd (tests_no_block at (ap (λ (z : Region). begins_block (node S.checked z.head)) (sym is ∙ (known.table).at_top m within (ap is_top is')) ∙
+    absurd (tests_no_block at
+    (ap (λ (z : Region). begins_block (node S.checked z.head)) (sym is ∙ (known.table).at_top m within (ap is_top is'))
+    ∙
     ap begins_block l.head))
 
 -- the side of a conditional was chosen by its predicate
-pub arm_spoken : {S : Source} {number : ℕ → ℕ → ℕ} {run : List Event} {a : Activation} {n t : ℕ} {b : Truth} → node S.checked n ≡ Split t
-    → Chosen S number run a n b
+pub arm_spoken : {S : Source} {number : ℕ → ℕ → ℕ} {run : List Event} {a : Activation} {n t : ℕ} {b : Truth}
+    → node S.checked n ≡ Split t → Chosen S number run a n b
     → Speaks S number run a (origin S.checked t) (value.Bool b)
 arm_spoken {S} {number} {run} {a} {n} {t} {b} is (has_said {e = e} tests says) =
     subst (λ k. Speaks S number run a (origin S.checked k) (value.Bool b)) (one_test tests (of_arms is)) says
 arm_spoken {S} {t = t} is (has_counted {e = e} at has decided) = let bad : Split t ≡ Switches e = sym is ∙ at in cc
 
 -- two sides of one conditional's switches are not both live: the predicate has spoken once
-pub sides_apart : {S : Source} (known : IsKnown S.checked) {number : ℕ → ℕ → ℕ} {run : List Event} {a : Activation} {n t : ℕ} → FiresOnce run
+pub sides_apart : {S : Source} (known : IsKnown S.checked) {number : ℕ → ℕ
+    → ℕ} {run : List Event} {a : Activation} {n t : ℕ} → FiresOnce run
     → node S.checked n ≡ Split t
     → Live S number run a (arm_at n true) → Live S number run a (arm_at n false) → ⊥
 sides_apart {S} known {number} {run} {a} {n} {t} once is x y =

@@ -8,7 +8,8 @@ use Rattle.id_value.proofs.AmongLemmas.{Among-either, Among-from_map}
 use Rattle.id_value.specs.declared.Kind.{Kind}
 use Rattle.id_value.specs.declared.Kind.TheVariants as kinds
 use Rattle.id_table.specs.declared.row.Node.{Node}
-use Rattle.id_table.specs.declared.row.Node.TheVariants.{Head, Param, Name, NextUse, Split, Binding, LoopHead, Variable, Entries, Switches, Next, Start, Reset}
+use Rattle.id_table.specs.declared.row.Node.TheVariants.{Head, Param, Name, NextUse, Split, Binding, LoopHead, Variable}
+use Rattle.id_table.specs.declared.row.Node.TheVariants.{Entries, Switches, Next, Start, Reset}
 use Rattle.id_table.specs.declared.row.Node.TheVariants.{Carried, Index}
 use Rattle.id_table.specs.Rows.{at}
 use Rattle.id_table.specs.Tables.{begins_block, is_binder, is_carried, is_variable}
@@ -20,13 +21,15 @@ use Rattle.id_check.proofs.ProgramsLemmas.{bound_name_row, bound_use_row, kind_f
 use Rattle.id_check.proofs.WantedLemmas.{next_row}
 use Rattle.id_instr.specs.declared.instr.Op.TheVariants as op
 use Rattle.id_desugar.specs.Ends.{next_of, end_of}
-use Rattle.id_desugar.specs.Regions.{bound_of, carried, first_variable, handed, has, has_index, imports_by, imports_of, is_outside, is_right_in}
+use Rattle.id_desugar.specs.Regions.{bound_of, carried, first_variable, handed, has, has_index, imports_by, imports_of}
+use Rattle.id_desugar.specs.Regions.{is_outside, is_right_in}
 use Rattle.id_desugar.specs.Regions.{nexts_from, nexts_of, taken, used, used_by, with_use}
 use Rattle.id_build.specs.declared.arc.Form.TheVariants.{Plain}
 use Rattle.id_build.specs.Rows.{Entry, block, entering, entries, entries_by, entries_row, first_binder}
 use Rattle.id_build.specs.Rows.{import_entries, label, label_by, loop_entries, node, outer_at, param_entry, port_at}
 use Rattle.id_build.specs.Rows.{made_of, port_of, variable_entries}
-use Rattle.id_build.proofs.LoopsLemmas.{carried_nodes, entries_node, entries_stand, entries_within, index_carried, loop_rows, next_is, switches_high, switches_low}
+use Rattle.id_build.proofs.LoopsLemmas.{carried_nodes, entries_node, entries_stand, entries_within, index_carried}
+use Rattle.id_build.proofs.LoopsLemmas.{loop_rows, next_is, switches_high, switches_low}
 use Rattle.id_laws.specs.Activations.{Tests, of_arms, of_turns}
 use Rattle.id_laws.proofs.Rows.Arcs.{Does, doing, enters, names, place_shown, varies, takes_in}
 use Rattle.id_laws.proofs.Rows.Assumed.{is_handed, names_by, names_of}
@@ -72,12 +75,14 @@ carried_row P i k is =
     let within = past P i is_carried refl (ap is_carried is) in
     let kind_is = kind_fixed P i (Carried k) k (record { within = within; node = is }) refl in
     let port : port_of k ≡ port_at P i = ap (λ o. port_of (unwrap_or o kinds.Int)) (sym kind_is) in
-    let d = doing {P = P} {n = i} {part = 0} (record { within = within; at = ap (λ m. slice_get (made_of P i (place P i) m) 0) is }) in
+    let d = doing {P = P} {n = i} {part =
+    0} (record { within = within; at = ap (λ m. slice_get (made_of P i (place P i) m) 0) is }) in
     record { within = within; does = subst (λ p. Does P i 0 (Plain (op.Merge p))) port d.does; kind = kind_is }
 
 -- the rows that a loop carries on for its index
 pub carried_rows : (P : Checked) (h s : ℕ) → h < length (rows P) → node P h ≡ LoopHead s → has_index P h ≡ true
-    → (node P (h + 1) ≡ Carried kinds.Int) × (node P (h + 2) ≡ Carried kinds.Int) × (node P (h + 3) ≡ Carried kinds.Bool)
+    → (node P (h + 1) ≡ Carried kinds.Int) × (node P (h + 2) ≡ Carried kinds.Int)
+    × (node P (h + 3) ≡ Carried kinds.Bool)
 carried_rows P h s within is has =
     let r = loop_rows P h s within is in
     carried_nodes (r.before_test).carried (index_carried P h r.entries r.carried r.before_test has)
@@ -91,7 +96,8 @@ carried_entries P h q true all (inr (inr (inl is))) = subst (EntryMerge P) (sym 
 carried_entries P h q true all (inr (inr (inr none))) = absurd none
 carried_entries P h q false all none = absurd none
 
-carried_merge : (P : Checked) (h s : ℕ) (q : Entry) → h < length (rows P) → node P h ≡ LoopHead s → Among q (map param_entry (carried P h)) → EntryMerge P q
+carried_merge : (P : Checked) (h s : ℕ) (q : Entry) → h < length (rows P) → node P h ≡ LoopHead s
+    → Among q (map param_entry (carried P h)) → EntryMerge P q
 carried_merge P h s q within is =
     carried_entries P h q (has_index P h) (λ has.
     let z = carried_rows P h s within is has in
@@ -104,10 +110,18 @@ variable_merge : (P : Checked) (v n : ℕ) (q : Entry) → Among q (variable_ent
 variable_merge P v zero q h = absurd h
 variable_merge P v (suc n) q h = go (is_variable (node P v)) refl h (variable_merge P (suc v) n q)
   where
-    go : (t : Truth) → is_variable (node P v) ≡ t → Among q (variable_entries v (cond t (next_of P v ∷ nexts_from P (suc v) n) []))
+    go : (t : Truth) → is_variable (node P v) ≡ t
+        → Among q (variable_entries v (cond t (next_of P v ∷ nexts_from P (suc v) n) []))
         → (Among q (variable_entries (suc v) (nexts_from P (suc v) n)) → EntryMerge P q) → EntryMerge P q
-    go true e (inl is) rest = subst (EntryMerge P) (sym is) (record { within = variable_within P v e; does = varies (variable_is (node P v) e) })
-    go true e (inr k) rest = let up : v + 1 ≡ suc v = omega arith in rest (subst (λ z. Among q (variable_entries z (nexts_from P (suc v) n))) up k)
+    go true e (inl is) rest =
+        subst (EntryMerge P) (sym is) (record {
+          within = variable_within P v e;
+          does =
+              varies (variable_is (node P v) e);
+        })
+    go true e (inr k) rest =
+        let up : v + 1 ≡ suc v =
+        omega arith in rest (subst (λ z. Among q (variable_entries z (nexts_from P (suc v) n))) up k)
     go false e k rest = absurd k
 
 -- the entry of an import
@@ -124,11 +138,18 @@ import_at e j (b ∷ bs) q (inl is) =
 import_at e j (b ∷ bs) q (inr h) =
     let z = import_at e (j + 1) bs q h in
     let up : j + 1 + z.slot ≡ j + suc z.slot = omega arith in
-    record { slot = suc z.slot; less = omega (arith, z.less); is = z.is ∙ ap (λ y. record { binder = get_or bs z.slot 0; row = e; part = y }) up }
+    record {
+      slot = suc z.slot;
+      less = omega (arith, z.less);
+      is =
+          z.is ∙ ap (λ y. record { binder = get_or bs z.slot 0; row = e; part = y }) up;
+    }
 
-pub loop_merge : (P : Checked) (h s : ℕ) (q : Entry) → h < length (rows P) → node P h ≡ LoopHead s → Among q (loop_entries P h) → EntryMerge P q
+pub loop_merge : (P : Checked) (h s : ℕ) (q : Entry) → h < length (rows P) → node P h ≡ LoopHead s
+    → Among q (loop_entries P h) → EntryMerge P q
 loop_merge P h s q within is among =
-    elim (Among-either q (map param_entry (carried P h)) (variable_entries v (nexts_of P h) ++ import_entries e 0 (imports_of P h)) among) [
+    elim (Among-either q (map param_entry (carried P h))
+    (variable_entries v (nexts_of P h) ++ import_entries e 0 (imports_of P h)) among) [
       | inl k ↦ carried_merge P h s q within is k
       | inr k ↦ elim (Among-either q (variable_entries v (nexts_of P h)) (import_entries e 0 (imports_of P h)) k) [
         | inl j ↦ variable_merge P v (length (rows P)) q j
@@ -148,9 +169,11 @@ loop_merge P h s q within is among =
         let first : 0 + z.slot ≡ z.slot = omega arith in
         let of_block : block P e ≡ h = (entries_stand P h s within is e (omega arith) (omega arith)).0 in
         let does : Does P e z.slot (Plain (op.Merge (port_at P (get_or (imports_of P h) z.slot 0)))) =
-        subst (λ g. z.slot < length (imports_of P g) → Does P e z.slot (Plain (op.Merge (port_at P (get_or (imports_of P g) z.slot 0))))) of_block
+        subst (λ g. z.slot < length (imports_of P g)
+        → Does P e z.slot (Plain (op.Merge (port_at P (get_or (imports_of P g) z.slot 0))))) of_block
         (λ less. takes_in z.slot (entries_node P h s within is) less) z.less in
-        subst (EntryMerge P) (ap (λ y. record { binder = get_or (imports_of P h) z.slot 0; row = e; part = y }) (sym first) ∙ sym z.is)
+        subst (EntryMerge P)
+        (ap (λ y. record { binder = get_or (imports_of P h) z.slot 0; row = e; part = y }) (sym first) ∙ sym z.is)
         (record { within = entries_within P h s within is; does = does })
 
 param_merge : (P : Checked) (h : ℕ) (q : Entry) → Among q (map param_entry (params_at (rows P) h)) → EntryMerge P q
@@ -160,7 +183,8 @@ param_merge P h q among =
     subst (EntryMerge P) (sym t.2) (record { within = z.within; does = enters (z.param).is })
 
 -- an entry of a block is a merge for its binder's values
-pub entry_merge : (P : Checked) (h : ℕ) (q : Entry) → h < length (rows P) → begins_block (node P h) ≡ true → Among q (entries P h) → EntryMerge P q
+pub entry_merge : (P : Checked) (h : ℕ) (q : Entry) → h < length (rows P) → begins_block (node P h) ≡ true
+    → Among q (entries P h) → EntryMerge P q
 entry_merge P h q within begins among = go (node P h) refl begins among
   where
     go : (m : Node) → node P h ≡ m → begins_block m ≡ true → Among q (entries_by P h m) → EntryMerge P q
@@ -187,7 +211,15 @@ a_next P v (suc n) m h = go (is_variable (node P v)) refl h (a_next P (suc v) n 
         (Among m (nexts_from P (suc v) n) → NextAt P m) → NextAt P m
     go true e (inl is) rest =
         let z = next_is P v (variable_within P v e) (variable_is (node P v) e) in
-        subst (NextAt P) (sym is) (record { name = z.name; index = z.index; outer = z.outer; value = z.value; within = z.within; node = z.node })
+        subst (NextAt P) (sym is) (record {
+          name = z.name;
+          index = z.index;
+          outer = z.outer;
+          value = z.value;
+          within =
+              z.within;
+          node = z.node;
+        })
     go true e (inr k) rest = rest k
     go false e k rest = absurd k
 
@@ -196,7 +228,8 @@ pub first_kind : (P : Checked) (m : ℕ) → NextAt P m → kind P (first_binder
 first_kind P m x =
     let z = next_row P m x.name x.index x.outer x.value (record { within = x.within; node = x.node }) in
     let b = z.0 in
-    let is : first_binder P m ≡ b = ap (λ n. unwrap_or (binder P (outer_at n)) 0) x.node ∙ ap (λ o. unwrap_or o 0) (z.3).binder in
+    let is : first_binder P m ≡ b =
+    ap (λ n. unwrap_or (binder P (outer_at n)) 0) x.node ∙ ap (λ o. unwrap_or o 0) (z.3).binder in
     ap (kind P) is ∙ sym z.4
 
 -- what goes to the entry of this number
@@ -204,13 +237,17 @@ pub record EnteredAs (P : Checked) (bs : List ℕ) (k : ℕ) (q : Entry) : Type 
   pub less : k < length bs
   pub kind : kind P (get_or bs k 0) ≡ kind P q.binder
 
-import_as : (P : Checked) (e j : ℕ) (bs : List ℕ) (k : ℕ) (q : Entry) → slice_get (import_entries e j bs) k ≡ Some q → EnteredAs P bs k q
+import_as : (P : Checked) (e j : ℕ) (bs : List ℕ) (k : ℕ) (q : Entry) → slice_get (import_entries e j bs) k ≡ Some q
+    → EnteredAs P bs k q
 import_as P e j [] k q h = cc
-import_as P e j (b ∷ bs) zero q h = let is = some_is h in record { less = omega arith; kind = ap (λ (z : Entry). kind P z.binder) is }
-import_as P e j (b ∷ bs) (suc k) q h = let z = import_as P e (j + 1) bs k q h in record { less = omega (arith, z.less); kind = z.kind }
+import_as P e j (b ∷ bs) zero q h =
+    let is = some_is h in record { less = omega arith; kind = ap (λ (z : Entry). kind P z.binder) is }
+import_as P e j (b ∷ bs) (suc k) q h =
+    let z = import_as P e (j + 1) bs k q h in record { less = omega (arith, z.less); kind = z.kind }
 
 either_as : (P : Checked) (v e : ℕ) (ms bs : List ℕ) (k : ℕ) (q : Entry) → ((m : ℕ) → Among m ms → NextAt P m)
-    → slice_get (variable_entries v ms ++ import_entries e 0 bs) k ≡ Some q → EnteredAs P (map (first_binder P) ms ++ bs) k q
+    → slice_get (variable_entries v ms ++ import_entries e 0 bs) k ≡ Some q
+    → EnteredAs P (map (first_binder P) ms ++ bs) k q
 either_as P v e [] bs k q all h = import_as P e 0 bs k q h
 either_as P v e (m ∷ ms) bs zero q all h =
     let is = some_is h in
@@ -221,17 +258,21 @@ either_as P v e (m ∷ ms) bs (suc k) q all h =
 
 -- what is carried on has its own kind
 before_as : (P : Checked) (is bs : List ℕ) (qs : List Entry) (k : ℕ) (q : Entry)
-    → ((j : ℕ) → slice_get qs j ≡ Some q → EnteredAs P bs j q) → slice_get (map param_entry is ++ qs) k ≡ Some q → EnteredAs P (is ++ bs) k q
+    → ((j : ℕ) → slice_get qs j ≡ Some q → EnteredAs P bs j q) → slice_get (map param_entry is ++ qs) k ≡ Some q
+    → EnteredAs P (is ++ bs) k q
 before_as P [] bs qs k q rest h = rest k h
-before_as P (i ∷ is) bs qs zero q rest h = let one = some_is h in record { less = omega arith; kind = ap (λ (z : Entry). kind P z.binder) one }
+before_as P (i ∷ is) bs qs zero q rest h =
+    let one = some_is h in record { less = omega arith; kind = ap (λ (z : Entry). kind P z.binder) one }
 before_as P (i ∷ is) bs qs (suc k) q rest h =
     let z = before_as P is bs qs k q rest h in
     record { less = omega (arith, z.less); kind = z.kind }
 
-pub entered_as : (P : Checked) (h k : ℕ) (q : Entry) → slice_get (loop_entries P h) k ≡ Some q → EnteredAs P (carried P h ++ entering P h) k q
+pub entered_as : (P : Checked) (h k : ℕ) (q : Entry) → slice_get (loop_entries P h) k ≡ Some q
+    → EnteredAs P (carried P h ++ entering P h) k q
 entered_as P h k q at =
     let v = first_variable P h in
-    before_as P (carried P h) (entering P h) (variable_entries v (nexts_of P h) ++ import_entries (entries_row P h) 0 (imports_of P h)) k q
+    before_as P (carried P h) (entering P h)
+    (variable_entries v (nexts_of P h) ++ import_entries (entries_row P h) 0 (imports_of P h)) k q
     (λ j e. either_as P v (entries_row P h) (nexts_of P h) (imports_of P h) j q (a_next P v (length (rows P))) e) at
 
 -- ---- imports are binders
@@ -241,7 +282,8 @@ pub record BinderAt (P : Checked) (b : ℕ) : Type 0 where
   pub within : b < length (rows P)
   pub binds : is_binder (node P b) ≡ true
 
-used_binds : (P : Checked) (i b : ℕ) (own : Truth) (m : Node) → node P i ≡ m → used_by own (binder P i) m ≡ Some b → BinderAt P b
+used_binds : (P : Checked) (i b : ℕ) (own : Truth) (m : Node) → node P i ≡ m → used_by own (binder P i) m ≡ Some b
+    → BinderAt P b
 used_binds P i b own (Name x) is e =
     let z = bound_name_row P i x (record { within = past P i is_name refl (ap is_name is); node = is }) in
     subst (BinderAt P) (some_is (sym (z.1).binder ∙ e)) (record { within = (z.1).within; binds = (z.1).is_binder })
@@ -259,8 +301,8 @@ used_binds P i b false (NextUse x) is e =
     is_use _ = false
 used_binds P i b own _ is e = cc
 
-use_binds : (P : Checked) (lo hi : ℕ) (bs : List ℕ) (o : Option ℕ) → ((b : ℕ) → Among b bs → BinderAt P b) → ((b : ℕ) → o ≡ Some b → BinderAt P b)
-    → (b : ℕ) → Among b (with_use lo hi bs o) → BinderAt P b
+use_binds : (P : Checked) (lo hi : ℕ) (bs : List ℕ) (o : Option ℕ) → ((b : ℕ) → Among b bs → BinderAt P b)
+    → ((b : ℕ) → o ≡ Some b → BinderAt P b) → (b : ℕ) → Among b (with_use lo hi bs o) → BinderAt P b
 use_binds P lo hi bs None old new b h = old b h
 use_binds P lo hi bs (Some c) old new b h = go (is_outside lo hi c) (has bs c) h
   where
@@ -311,7 +353,8 @@ entering_binds P h s b is among =
           let t = Among-from_map (first_binder P) b (nexts_of P h) k in
           let x = a_next P (first_variable P h) (length (rows P)) t.0 t.1 in
           let z = next_row P t.0 x.name x.index x.outer x.value (record { within = x.within; node = x.node }) in
-          let is : b ≡ z.0 = t.2 ∙ ap (λ n. unwrap_or (binder P (outer_at n)) 0) x.node ∙ ap (λ o. unwrap_or o 0) (z.3).binder in
+          let is : b ≡ z.0 =
+          t.2 ∙ ap (λ n. unwrap_or (binder P (outer_at n)) 0) x.node ∙ ap (λ o. unwrap_or o 0) (z.3).binder in
           subst (BinderAt P) (sym is) (record { within = (z.3).within; binds = (z.3).is_binder })
       | inr k ↦ import_binds P h s b is k
     ]
@@ -329,7 +372,8 @@ handed_carried P b k is = record { within = past P b is_carried refl (ap is_carr
 
 -- what switches hand on is so: the names, and the upper bound of an index
 pub handed_at : (P : Checked) (n t b : ℕ) → n < length (rows P) → Tests P n t → Among b (imports_of P n) → HandedAt P b
-handed_at P n t b within (of_arms is) among = handed_binder P b (outside_binds P n b (subst (λ m. Among b (handed P n m)) is among))
+handed_at P n t b within (of_arms is) among =
+    handed_binder P b (outside_binds P n b (subst (λ m. Among b (handed P n m)) is among))
 handed_at P n t b within (of_turns is) among =
     elim (Among-either b (bound_of P g) (nexts_of P g ++ taken P g) (subst (λ m. Among b (handed P n m)) is among)) [
       | inl k ↦ bound (has_index P g) refl k
@@ -346,7 +390,8 @@ handed_at P n t b within (of_turns is) among =
         let low = switches_low x in
         let high = switches_high x in
         let less : g < length (rows P) = omega (arith, low, high, (z.1).within) in
-        subst (HandedAt P) (sym e) (handed_carried P (g + 2) kinds.Int (carried_rows P g (g - 1) less (x.before_test).head has).1)
+        subst (HandedAt P) (sym e)
+        (handed_carried P (g + 2) kinds.Int (carried_rows P g (g - 1) less (x.before_test).head has).1)
     bound true has (inr none) = absurd none
     bound false has none = absurd none
 
@@ -359,7 +404,8 @@ pub record VariableOf (P : Checked) (m i : ℕ) : Type 0 where
   pub next : next_of P i ≡ m
   pub place : place P i ≡ place P m
 
-pub variable_of_next : (P : Checked) (m x k o v : ℕ) → m < length (rows P) → node P m ≡ Next x k o v → VariableOf P m (block P m + 1 + k)
+pub variable_of_next : (P : Checked) (m x k o v : ℕ) → m < length (rows P) → node P m ≡ Next x k o v
+    → VariableOf P m (block P m + 1 + k)
 variable_of_next P m x k o v within is =
     let h = block P m in
     let i = h + 1 + k in
@@ -372,8 +418,20 @@ variable_of_next P m x k o v within is =
     let same_block : block P (next_of P i) ≡ h = sym there.variable_block ∙ ap (block P) n.is ∙ z.variable_block in
     let same_index : n.index ≡ k = omega (arith, n.is, same_block) in
     let as_next : IsNextOf (rows P) (next_of P i) h k n.name =
-    record { outer = n.outer; value = n.value; within = n.within; block = same_block; node = n.node ∙ ap (λ j. Next n.name j n.outer n.value) same_index } in
-    record { within = low; node = z.variable; next = (table_of P).one_next (next_of P i) m h k n.name x as_next here; place = z.place }
+    record {
+      outer = n.outer;
+      value = n.value;
+      within = n.within;
+      block = same_block;
+      node =
+          n.node ∙ ap (λ j. Next n.name j n.outer n.value) same_index;
+    } in
+    record {
+      within = low;
+      node = z.variable;
+      next = (table_of P).one_next (next_of P i) m h k n.name x as_next here;
+      place = z.place;
+    }
 
 -- the label of a binder: a merge of its kind, at its place
 pub record LabelAt (P : Checked) (b : ℕ) : Type 0 where
@@ -394,8 +452,10 @@ label_at P b within e = go (node P b) refl e
     by n is x = let y = subst (Labels P b) (sym is) x in record { within = y.0; does = y.1; place = y.2; shows = y.3 }
 
     go : (m : Node) → node P b ≡ m → is_binder m ≡ true → LabelAt P b
-    go (Param x k) is h = by b (ap (label_by (block P b) b) is) (within, enters is, refl, ap (place_shown P (place P b)) is)
-    go (Binding x a) is h = by b (ap (label_by (block P b) b) is) (within, names is, refl, ap (place_shown P (place P b)) is)
+    go (Param x k) is h =
+        by b (ap (label_by (block P b) b) is) (within, enters is, refl, ap (place_shown P (place P b)) is)
+    go (Binding x a) is h =
+        by b (ap (label_by (block P b) b) is) (within, names is, refl, ap (place_shown P (place P b)) is)
     go (Next x k o v) is h =
         let z = variable_of_next P b x k o v within is in
         by (block P b + 1 + k) (ap (label_by (block P b) b) is) (

@@ -1,14 +1,17 @@
 -- What stands where in a loop.
-use Rattle.std.proofs.Common.{◌≡◌, inl, inr, ℕ, zero, suc, ◌+◌, ◌-◌, ◌<◌, ◌≤◌, true, false, length, refl, sym, ◌∙◌, ap, subst, arith, if◌then◌else◌}
+use Rattle.std.proofs.Common.{◌≡◌, inl, inr, ℕ, zero, suc, ◌+◌, ◌-◌, ◌<◌, ◌≤◌, true, false, length, refl, sym, ◌∙◌, ap}
+use Rattle.std.proofs.Common.{subst, arith, if◌then◌else◌}
 use Rattle.std.proofs.lemmas.Bool.{cases_lt}
 use Rattle.id_table.specs.declared.row.Node.{Node}
 use Rattle.id_value.specs.declared.Kind.{Kind}
 use Rattle.id_value.specs.declared.Kind.TheVariants as kinds
-use Rattle.id_table.specs.declared.row.Node.TheVariants.{Start, LoopHead, Variable, Switches, Turn, NextUse, Next, Body, Reset, Loop}
+use Rattle.id_table.specs.declared.row.Node.TheVariants.{Start, LoopHead, Variable, Switches, Turn, NextUse, Next, Body}
+use Rattle.id_table.specs.declared.row.Node.TheVariants.{Reset, Loop}
 use Rattle.id_table.specs.declared.row.Node.TheVariants.{Bounds, Carried, Within, Count, Index}
 use Rattle.id_table.specs.Rows.{arm_at, at, top}
 use Rattle.id_table.specs.Tables.{HasPart, begins_block, is_carried, is_expression, is_in_loop, is_variable, is_within}
-use Rattle.id_table.specs.Loops.{AreBounds, AreCarried, nothing, an_index, AreEntries, Begins, plainly, with_bounds, IsLoop, IsLoopOf, IsTest, predicate, flag}
+use Rattle.id_table.specs.Loops.{AreBounds, AreCarried, nothing, an_index, AreEntries, Begins, plainly, with_bounds}
+use Rattle.id_table.specs.Loops.{IsLoop, IsLoopOf, IsTest, predicate, flag}
 use Rattle.id_table.specs.Loops.{IsTurn, right, behind_count, bounds_row, index_row}
 use Rattle.id_check.specs.declared.checked.Checked.{Checked}
 use Rattle.id_check.specs.Programs.{Stands, place, region, rows}
@@ -42,7 +45,8 @@ pub record IsCounted (P : Checked) {n h w l : ℕ} (x : IsLoop (rows P) n h w l)
 
 -- a loop goes by a predicate, or has an index
 pub data LoopKind (P : Checked) {n h w l : ℕ} (x : IsLoop (rows P) n h w l) : Type 0 where
-  plain : has_index P h ≡ false → is_expression (node P (x.test).test) ≡ true → x.turn ≡ w + 1 → (at (rows P) n).first ≡ x.start → LoopKind P x
+  plain : has_index P h ≡ false → is_expression (node P (x.test).test) ≡ true → x.turn ≡ w + 1
+      → (at (rows P) n).first ≡ x.start → LoopKind P x
   counted : IsCounted P x → LoopKind P x
 
 no_carried : (m : Node) → is_variable m ≡ true → is_carried m ≡ false
@@ -53,31 +57,36 @@ no_carried _ e = let bad : true ≡ false = sym e in cc
 none_carried : (P : Checked) (h e : ℕ) → AreEntries (rows P) h e 0 → has_index P h ≡ false
 none_carried P h e x = elim (cases_lt (h + 1) e) [
   | inl less ↦ no_carried (node P (h + 1)) (x.variable (h + 1) (omega arith) less)
-  | inr past ↦ let same : h + 1 ≡ e = omega (arith, past, x.low) in ap (λ i. is_carried (node P i)) same ∙ ap is_carried x.entries
+  | inr past ↦ let same : h + 1 ≡ e =
+      omega (arith, past, x.low) in ap (λ i. is_carried (node P i)) same ∙ ap is_carried x.entries
 ]
 
 pub kind_of : (P : Checked) {n h w l : ℕ} (x : IsLoop (rows P) n h w l) → LoopKind P x
-kind_of P {n} {h} {w} x = go x.carried refl (x.before_test).carried x.before_test (x.test).test_is (x.body_is).turns x.from
+kind_of P {n} {h} {w} x =
+    go x.carried refl (x.before_test).carried x.before_test (x.test).test_is (x.body_is).turns x.from
   where
-    go : (c : ℕ) → x.carried ≡ c → AreCarried (rows P) h c → AreEntries (rows P) h x.entries c → IsTest (rows P) h (x.test).test c → IsTurn (rows P) w x.turn c
+    go : (c : ℕ) → x.carried ≡ c → AreCarried (rows P) h c → AreEntries (rows P) h x.entries c
+        → IsTest (rows P) h (x.test).test c → IsTurn (rows P) w x.turn c
         → Begins (rows P) x.start n c → LoopKind P x
-    go c same nothing entries (predicate is) (right t) (plainly first) = plain (none_carried P h x.entries entries) is t first
-    go c same (an_index i b f) entries (flag is) (behind_count {x = y} t count index) (with_bounds {c = d} before bounds) = counted (record {
-      three = same;
-      has = ap is_carried i;
-      entry = i;
-      bound = b;
-      flag = f;
-      few = entries.low;
-      test = is;
-      turn = t;
-      count = count;
-      name = y;
-      index = index;
-      row = d;
-      before = before;
-      bounds = bounds;
-    })
+    go c same nothing entries (predicate is) (right t) (plainly first) =
+        plain (none_carried P h x.entries entries) is t first
+    go c same (an_index i b f) entries (flag is) (behind_count {x = y} t count index)
+        (with_bounds {c = d} before bounds) = counted (record {
+          three = same;
+          has = ap is_carried i;
+          entry = i;
+          bound = b;
+          flag = f;
+          few = entries.low;
+          test = is;
+          turn = t;
+          count = count;
+          name = y;
+          index = index;
+          row = d;
+          before = before;
+          bounds = bounds;
+        })
 
 -- what hands on stands behind its switches, or behind what counts
 turn_by : (P : Checked) {n h w l : ℕ} (x : IsLoop (rows P) n h w l) → x.turn ≡ w + (if has_index P h then 2 else 1)
@@ -125,14 +134,18 @@ loop_by {P} known {n} {h} c =
     record { the = the; all = all; within = omega (arith, part.1, c.within); head = (all.before_test).head }
 
 -- of its head, of its `Start`, and of a row of its block
-pub loop_of_head : {P : Checked} (known : IsKnown P) {h s : ℕ} → h < length (rows P) → node P h ≡ LoopHead s → LoopOf P h
+pub loop_of_head : {P : Checked} (known : IsKnown P) {h s : ℕ} → h < length (rows P) → node P h ≡ LoopHead s
+    → LoopOf P h
 loop_of_head {P} known {h} {s} within is = loop_by known (loop_is P known.table h s within is)
 
-pub loop_of_start : {P : Checked} (known : IsKnown P) {s : ℕ} → s < length (rows P) → node P s ≡ Start → LoopOf P (s + 1)
+pub loop_of_start : {P : Checked} (known : IsKnown P) {s : ℕ} → s < length (rows P) → node P s ≡ Start
+    → LoopOf P (s + 1)
 loop_of_start {P} known {s} within is = loop_by known ((known.table).start_of_loop s within is).1
 
-pub loop_of_row : {P : Checked} (known : IsKnown P) {i : ℕ} (m : Node) → i < length (rows P) → node P i ≡ m → is_in_loop m ≡ true → LoopOf P (block P i)
-loop_of_row {P} known {i} m within is e = let z = (known.table).loop_of i within (ap is_in_loop is ∙ e) in loop_by known z.1
+pub loop_of_row : {P : Checked} (known : IsKnown P) {i : ℕ} (m : Node) → i < length (rows P) → node P i ≡ m
+    → is_in_loop m ≡ true → LoopOf P (block P i)
+loop_of_row {P} known {i} m within is e =
+    let z = (known.table).loop_of i within (ap is_in_loop is ∙ e) in loop_by known z.1
 
 -- each loop of the head is that one
 pub record SameLoop (P : Checked) (n h w l : ℕ) (x : LoopOf P h) : Type 0 where
@@ -140,10 +153,12 @@ pub record SameLoop (P : Checked) (n h w l : ℕ) (x : LoopOf P h) : Type 0 wher
   pub switches : w ≡ (x.the).switches
   pub last : l ≡ (x.the).last
 
-pub same_loop : {P : Checked} (known : IsKnown P) {n h : ℕ} (c : IsLoopOf (rows P) n h) (x : LoopOf P h) → SameLoop P n h c.switches c.last x
+pub same_loop : {P : Checked} (known : IsKnown P) {n h : ℕ} (c : IsLoopOf (rows P) n h) (x : LoopOf P h)
+    → SameLoop P n h c.switches c.last x
 same_loop {P} known {n} {h} c x =
     let row = sym (loop_same P known.table n h c) in
-    let both : Loop h c.switches c.last ≡ Loop h (x.the).switches (x.the).last = sym c.node ∙ ap (node P) row ∙ (x.the).node in
+    let both : Loop h c.switches c.last ≡ Loop h (x.the).switches (x.the).last =
+    sym c.node ∙ ap (node P) row ∙ (x.the).node in
     record { row = row; switches = cc; last = cc }
 
 module _ (P : Checked) (known : IsKnown P) (h : ℕ) (x : LoopOf P h) where
@@ -197,7 +212,9 @@ module _ (P : Checked) (known : IsKnown P) (h : ℕ) (x : LoopOf P h) where
   -- its last expression
   pub last_within : last_row < length (rows P)
   last_within =
-      let part = (((known.table).formed).each loop_row (x.the).within).parts last_row (subst (λ m. HasPart m last_row) (sym (x.the).node) (inr (inr refl))) in
+      let part =
+      (((known.table).formed).each loop_row (x.the).within).parts last_row
+      (subst (λ m. HasPart m last_row) (sym (x.the).node) (inr (inr refl))) in
       omega (arith, part.1, (x.the).within)
 
   pub last_region : region P last_row ≡ arm_at switches_row false
@@ -222,7 +239,8 @@ module _ (P : Checked) (known : IsKnown P) (h : ℕ) (x : LoopOf P h) where
   turn_behind = behind_switches P x.all
 
   pub turn_within : turn_row P h < length (rows P)
-  turn_within = omega (arith, turn_is, ((x.all).body_is).low, ((x.all).last_is).low, ((x.all).last_is).ends, (x.the).within)
+  turn_within =
+      omega (arith, turn_is, ((x.all).body_is).low, ((x.all).last_is).low, ((x.all).last_is).ends, (x.the).within)
 
   pub turn_in : block P (turn_row P h) ≡ h
   turn_in = ap (block P) turn_is ∙ (((x.all).body_is).begins (x.all).turn turn_behind (omega arith)).0
@@ -237,7 +255,8 @@ module _ (P : Checked) (known : IsKnown P) (h : ℕ) (x : LoopOf P h) where
   reset_in =
       let z = (known.table).reset_of (loop_row - 2) last_row reset_within reset_node in
       let row : z.0 ≡ loop_row = omega (arith, z.3, ((x.all).last_is).ends) in
-      let both : Loop (block P (loop_row - 2)) (z.1).switches (z.1).last ≡ Loop h (x.the).switches (x.the).last = sym (z.1).node ∙ ap (node P) row ∙
+      let both : Loop (block P (loop_row - 2)) (z.1).switches (z.1).last ≡ Loop h (x.the).switches (x.the).last =
+      sym (z.1).node ∙ ap (node P) row ∙
       (x.the).node in
       cc
 
@@ -246,7 +265,13 @@ module _ (P : Checked) (known : IsKnown P) (h : ℕ) (x : LoopOf P h) where
   stands_loop = record { within = (x.the).within; node = (x.the).node }
 
   pub loop_stands : is_within (node P test_row) ≡ false → LoopStands P loop_row h switches_row test_row last_row
-  loop_stands other = record { loop = stands_loop; switches = record { within = switches_within; node = switches_node }; predicate = other }
+  loop_stands other =
+      record {
+        loop = stands_loop;
+        switches = record { within = switches_within; node = switches_node };
+        predicate =
+            other;
+      }
 
   pub result_is : result_of P h ≡ last_row
   result_is = ap result_at (x.the).node
@@ -277,11 +302,13 @@ module _ (P : Checked) (known : IsKnown P) (h : ℕ) (x : LoopOf P h) (c : IsCou
   )
 
   -- what counts and the index stand in its body
-  pub counts_stands : (i : ℕ) → switches_row P known h x < i → i ≤ switches_row P known h x + 2 → (block P i ≡ h) × (region P i ≡ arm_at (switches_row P known h x) true)
+  pub counts_stands : (i : ℕ) → switches_row P known h x < i → i ≤ switches_row P known h x + 2
+      → (block P i ≡ h) × (region P i ≡ arm_at (switches_row P known h x) true)
   counts_stands i low high = ((x.all).body_is).begins i low (omega (arith, high, c.turn))
 
   pub counts_within : (i : ℕ) → i ≤ switches_row P known h x + 3 → i < length (rows P)
-  counts_within i high = omega (arith, high, c.turn, ((x.all).body_is).low, ((x.all).last_is).low, ((x.all).last_is).ends, (x.the).within)
+  counts_within i high =
+      omega (arith, high, c.turn, ((x.all).body_is).low, ((x.all).last_is).low, ((x.all).last_is).ends, (x.the).within)
 
   -- its bounds stand right before its `Start`
   pub bounds_at : bounds_row h ≡ c.row
@@ -307,7 +334,8 @@ module _ (P : Checked) (known : IsKnown P) (h : ℕ) (x : LoopOf P h) (c : IsCou
   index_within = counts_within (index_row (switches_row P known h x)) (omega arith)
 
   -- the rule
-  pub for_stands : ForStands P (loop_row P known h x) (switches_row P known h x) (index_row (switches_row P known h x)) (c.bounds).lower (c.bounds).upper
+  pub for_stands : ForStands P (loop_row P known h x) (switches_row P known h x) (index_row (switches_row P known h x))
+      (c.bounds).lower (c.bounds).upper
       (last_row P known h x)
   for_stands = record {
     head = h;
@@ -322,12 +350,15 @@ module _ (P : Checked) (known : IsKnown P) (h : ℕ) (x : LoopOf P h) (c : IsCou
 pub carried_node : (P : Checked) (known : IsKnown P) (h : ℕ) (x : LoopOf P h) → IsCounted P x.all → (k : ℕ) → k < 3
     → (kind : Kind) × (node P (h + 1 + k) ≡ Carried kind)
 carried_node P known h x c zero few = let e : h + 1 + 0 ≡ h + 1 = omega arith in (kinds.Int, ap (node P) e ∙ c.entry)
-carried_node P known h x c (suc zero) few = let e : h + 1 + 1 ≡ h + 2 = omega arith in (kinds.Int, ap (node P) e ∙ c.bound)
-carried_node P known h x c (suc (suc zero)) few = let e : h + 1 + 2 ≡ h + 3 = omega arith in (kinds.Bool, ap (node P) e ∙ c.flag)
+carried_node P known h x c (suc zero) few =
+    let e : h + 1 + 1 ≡ h + 2 = omega arith in (kinds.Int, ap (node P) e ∙ c.bound)
+carried_node P known h x c (suc (suc zero)) few =
+    let e : h + 1 + 2 ≡ h + 3 = omega arith in (kinds.Bool, ap (node P) e ∙ c.flag)
 carried_node P known h x c (suc (suc (suc k))) few = absurd (omega (arith, few))
 
 -- where bounds stand two rows before the head of a loop, it has an index
-pub bounds_mean : {P : Checked} (known : IsKnown P) {h a b : ℕ} (x : LoopOf P h) → node P (bounds_row h) ≡ Bounds a b → has_index P h ≡ true
+pub bounds_mean : {P : Checked} (known : IsKnown P) {h a b : ℕ} (x : LoopOf P h) → node P (bounds_row h) ≡ Bounds a b
+    → has_index P h ≡ true
 bounds_mean {P} known {h} {a} {b} x is = elim (cases_lt 1 h) [
   | inl less ↦
       let z = (known.table).bounds_of (bounds_row h) a b (omega (arith, x.within)) is in
@@ -340,8 +371,8 @@ bounds_mean {P} known {h} {a} {b} x is = elim (cases_lt 1 h) [
 ]
 
 -- the rule of a loop with bounds there
-pub for_at : {P : Checked} (known : IsKnown P) {n h w l a b : ℕ} → n < length (rows P) → node P n ≡ Loop h w l → node P (bounds_row h) ≡ Bounds a b
-    → ForStands P n w (index_row w) a b l
+pub for_at : {P : Checked} (known : IsKnown P) {n h w l a b : ℕ} → n < length (rows P) → node P n ≡ Loop h w l
+    → node P (bounds_row h) ≡ Bounds a b → ForStands P n w (index_row w) a b l
 for_at {P} known {n} {h} {w} {l} within is at =
     let c : IsLoopOf (rows P) n h = record { switches = w; last = l; within = within; node = is } in
     let x = loop_by known c in
@@ -360,7 +391,8 @@ for_at {P} known {n} {h} {w} {l} within is at =
     }
 
 -- what goes by no predicate has an index
-pub within_counted : {P : Checked} {h : ℕ} → {t : ℕ} → is_within (node P t) ≡ true → (x : LoopOf P h) → t ≡ ((x.all).test).test → IsCounted P x.all
+pub within_counted : {P : Checked} {h : ℕ} → {t : ℕ} → is_within (node P t) ≡ true → (x : LoopOf P h)
+    → t ≡ ((x.all).test).test → IsCounted P x.all
 within_counted {P} {h} {t} e x same = by (kind_of P x.all)
   where
     no_expression : (m : Node) → is_within m ≡ true → is_expression m ≡ true → ⊥
@@ -378,7 +410,8 @@ pub record CarriedIn (P : Checked) (n : ℕ) : Type 0 where
   pub low : block P n < n
   pub high : n ≤ block P n + 3
 
-pub carried_loop : {P : Checked} (known : IsKnown P) {n : ℕ} {k : Kind} → n < length (rows P) → node P n ≡ Carried k → CarriedIn P n
+pub carried_loop : {P : Checked} (known : IsKnown P) {n : ℕ} {k : Kind} → n < length (rows P) → node P n ≡ Carried k
+    → CarriedIn P n
 carried_loop {P} known {n} {k} within is =
     let l = loop_of_row known (Carried k) within is refl in
     let z = (known.table).carried_of n within (ap is_carried is) in
@@ -394,43 +427,49 @@ carried_loop {P} known {n} {k} within is =
     above l = elim (cases_lt (block P n) n) [
       | inl less ↦ less
       | inr past ↦
-          let low = ((known.table).block n (omega (arith, (l.the).within, (known.table).loop_of n within (ap is_in_loop is)))).0 in
+          let low =
+          ((known.table).block n
+          (omega (arith, (l.the).within, (known.table).loop_of n within (ap is_in_loop is)))).0 in
           let same : block P n ≡ n = omega (arith, past, low) in
           let bad : LoopHead (block P n - 1) ≡ Carried k = sym l.head ∙ ap (node P) same ∙ is in
           cc
     ]
 
 -- what counts
-pub count_loop : {P : Checked} (known : IsKnown P) {n : ℕ} → n < length (rows P) → node P n ≡ Count → (l : LoopOf P (block P n)) × IsCounted P l.all
+pub count_loop : {P : Checked} (known : IsKnown P) {n : ℕ} → n < length (rows P) → node P n ≡ Count
+    → (l : LoopOf P (block P n)) × IsCounted P l.all
 count_loop {P} known {n} within is =
     let z = (known.table).count_of n within is in
     let l = loop_of_row known Count within is refl in
     (l, counted_of P l.all (has_three P ((known.table).loop_is z.0 (block P n) z.1) z.2))
 
-pub count_at : {P : Checked} (known : IsKnown P) {n : ℕ} → n < length (rows P) → node P n ≡ Count → (l : LoopOf P (block P n)) → n ≡ (l.the).switches + 1
+pub count_at : {P : Checked} (known : IsKnown P) {n : ℕ} → n < length (rows P) → node P n ≡ Count
+    → (l : LoopOf P (block P n)) → n ≡ (l.the).switches + 1
 count_at {P} known {n} within is l =
     let z = (known.table).count_of n within is in
     sym z.3 ∙ ap (λ w. w + 1) (same_loop known z.1 l).switches
 
-pub count_region : {P : Checked} (known : IsKnown P) {n : ℕ} → n < length (rows P) → node P n ≡ Count → (l : LoopOf P (block P n)) → IsCounted P l.all
-    → region P n ≡ arm_at (l.the).switches true
+pub count_region : {P : Checked} (known : IsKnown P) {n : ℕ} → n < length (rows P) → node P n ≡ Count
+    → (l : LoopOf P (block P n)) → IsCounted P l.all → region P n ≡ arm_at (l.the).switches true
 count_region {P} known {n} within is l c =
     let at = count_at known within is l in
     ap (region P) at ∙ (counts_stands P known (block P n) l c ((l.the).switches + 1) (omega arith) (omega arith)).1
 
 -- and the index
-pub index_at : {P : Checked} (known : IsKnown P) {n x : ℕ} → n < length (rows P) → node P n ≡ Index x → (l : LoopOf P (block P n)) → n ≡ index_row (l.the).switches
+pub index_at : {P : Checked} (known : IsKnown P) {n x : ℕ} → n < length (rows P) → node P n ≡ Index x
+    → (l : LoopOf P (block P n)) → n ≡ index_row (l.the).switches
 index_at {P} known {n} {x} within is l =
     let z = (known.table).index_of n x within is in
     sym z.3 ∙ ap index_row (same_loop known z.1 l).switches
 
-pub index_region : {P : Checked} (known : IsKnown P) {n x : ℕ} → n < length (rows P) → node P n ≡ Index x → (l : LoopOf P (block P n)) → IsCounted P l.all
-    → region P n ≡ arm_at (l.the).switches true
+pub index_region : {P : Checked} (known : IsKnown P) {n x : ℕ} → n < length (rows P) → node P n ≡ Index x
+    → (l : LoopOf P (block P n)) → IsCounted P l.all → region P n ≡ arm_at (l.the).switches true
 index_region {P} known {n} {x} within is l c =
     arcs_region P n x within is ∙ ap (λ w. arm_at w true) (same_loop known (arcs_loop P n x within is).1 l).switches
 
 -- what hands on stands behind the switches
-pub turn_at : {P : Checked} (known : IsKnown P) {n : ℕ} → n < length (rows P) → node P n ≡ Turn → (x : LoopOf P (block P n)) → n ≡ turn_row P (block P n)
+pub turn_at : {P : Checked} (known : IsKnown P) {n : ℕ} → n < length (rows P) → node P n ≡ Turn
+    → (x : LoopOf P (block P n)) → n ≡ turn_row P (block P n)
 turn_at {P} known {n} within is x =
     let z = (known.table).turn_of n within is in
     let same = same_loop known z.1 x in
@@ -438,12 +477,13 @@ turn_at {P} known {n} within is x =
     sym z.2 ∙ turn_by P ((known.table).loop_is z.0 h z.1) ∙ ap (λ w. w + (if has_index P h then 2 else 1)) same.switches
     ∙ sym (turn_by P x.all) ∙ sym (turn_is P known h x)
 
-pub turn_region_at : {P : Checked} (known : IsKnown P) {n : ℕ} → n < length (rows P) → node P n ≡ Turn → (x : LoopOf P (block P n))
-    → region P n ≡ arm_at (x.the).switches true
+pub turn_region_at : {P : Checked} (known : IsKnown P) {n : ℕ} → n < length (rows P) → node P n ≡ Turn
+    → (x : LoopOf P (block P n)) → region P n ≡ arm_at (x.the).switches true
 turn_region_at {P} known {n} within is x = ap (region P) (turn_at known within is x) ∙ turn_region P known (block P n) x
 
 -- the last expression of a loop's `Reset`
-pub reset_last : {P : Checked} (known : IsKnown P) {n v : ℕ} → n < length (rows P) → node P n ≡ Reset v → (x : LoopOf P (block P n)) → v ≡ (x.the).last
+pub reset_last : {P : Checked} (known : IsKnown P) {n v : ℕ} → n < length (rows P) → node P n ≡ Reset v
+    → (x : LoopOf P (block P n)) → v ≡ (x.the).last
 reset_last {P} known {n} {v} within is x =
     let z = (known.table).reset_of n v within is in
     sym z.2 ∙ (same_loop known z.1 x).last
@@ -454,10 +494,17 @@ pub record NextOf (P : Checked) (m x k o v : ℕ) (l : LoopOf P (block P m)) : T
   pub stands : NextStands P m (block P m) o v
   pub outer : node P o ≡ NextUse x
 
-pub next_at : {P : Checked} (known : IsKnown P) {m x k o v : ℕ} (within : m < length (rows P)) (is : node P m ≡ Next x k o v) (l : LoopOf P (block P m)) →
+pub next_at : {P : Checked} (known : IsKnown P) {m x k o v : ℕ} (within : m < length (rows P))
+    (is : node P m ≡ Next x k o v) (l : LoopOf P (block P m)) →
     NextOf P m x k o v l
 next_at {P} known {m} {x} {k} {o} {v} within is l =
-    let z = (known.table).next_in m (block P m) k x (record { outer = o; value = v; within = within; block = refl; node = is }) in
+    let z = (known.table).next_in m (block P m) k x (record {
+      outer = o;
+      value = v;
+      within = within;
+      block = refl;
+      node = is;
+    }) in
     record {
       region = (z.2).region ∙ ap (λ w. arm_at w true) (same_loop known z.1 l).switches;
       stands = record { name = x; index = k; next = record { within = within; node = is }; block = refl };
@@ -465,7 +512,8 @@ next_at {P} known {m} {x} {k} {o} {v} within is l =
     }
 
 -- the body's end, and its switches
-pub body_at : {P : Checked} (known : IsKnown P) {n : ℕ} → n < length (rows P) → node P n ≡ Body → (x : LoopOf P (block P n)) →
+pub body_at : {P : Checked} (known : IsKnown P) {n : ℕ} → n < length (rows P) → node P n ≡ Body
+    → (x : LoopOf P (block P n)) →
     region P n ≡ arm_at (x.the).switches true
 body_at {P} known {n} within is x =
     let z = (known.table).body_of n within is in
@@ -474,7 +522,8 @@ body_at {P} known {n} within is x =
     ap (region P) (sym z.2) ∙ body ∙ ap (λ w. arm_at w true) same.switches
 
 -- the `next` of a variable stands in its block
-pub next_block : (P : Checked) (known : IsKnown P) (v : ℕ) → v < length (rows P) → node P v ≡ Variable → block P (next_of P v) ≡ block P v
+pub next_block : (P : Checked) (known : IsKnown P) (v : ℕ) → v < length (rows P) → node P v ≡ Variable
+    → block P (next_of P v) ≡ block P v
 next_block P known v within is =
     let n = next_is P v within is in
     let m = next_of P v in
@@ -483,8 +532,8 @@ next_block P known v within is =
     sym there.variable_block ∙ ap (block P) n.is
 
 -- a loop has one pair of switches
-pub one_switches : (P : Checked) (known : IsKnown P) (n w e t : ℕ) → n < length (rows P) → node P n ≡ Switches e → w < length (rows P) → node P w ≡ Switches t
-    → block P n ≡ block P w → n ≡ w
+pub one_switches : (P : Checked) (known : IsKnown P) (n w e t : ℕ) → n < length (rows P) → node P n ≡ Switches e
+    → w < length (rows P) → node P w ≡ Switches t → block P n ≡ block P w → n ≡ w
 one_switches P known n w e t within is within' is' same =
     let z = (known.table).switches_of n e within is in
     let y = (known.table).switches_of w t within' is' in
@@ -499,7 +548,8 @@ one_switches P known n w e t within is within' is' same =
     sym z.2 ∙ (same_loop known c' l).switches ∙ sym (same_loop known y.1 l).switches ∙ y.2
 
 -- and those are the loop's
-pub own_switches : (P : Checked) (known : IsKnown P) (w t : ℕ) → w < length (rows P) → node P w ≡ Switches t → (l : LoopOf P (block P w)) → (l.the).switches ≡ w
+pub own_switches : (P : Checked) (known : IsKnown P) (w t : ℕ) → w < length (rows P) → node P w ≡ Switches t
+    → (l : LoopOf P (block P w)) → (l.the).switches ≡ w
 own_switches P known w t within is l =
     let z = (known.table).switches_of w t within is in
     sym (same_loop known z.1 l).switches ∙ z.2

@@ -38,7 +38,8 @@ pub record RegionOf (P : Checked) (n : ℕ) : Type 0 where
   pub head : HeadOf P (region P n)
   pub block : block P (region P n).head ≡ block P n
 
-pub region_of : {P : Checked} (known : IsKnown P) {n : ℕ} → n < length (rows P) → (node P n ≡ Program → ⊥) → RegionOf P n
+pub region_of : {P : Checked} (known : IsKnown P) {n : ℕ} → n < length (rows P) → (node P n ≡ Program → ⊥)
+    → RegionOf P n
 region_of {P} known {n} within other = elim ((known.table).region n less) [
   | inl is ↦ at_top is
   | inr rest ↦ elim rest [ inl x ↦ in_arm x | inr x ↦ in_side x ]
@@ -62,7 +63,9 @@ region_of {P} known {n} within other = elim ((known.table).region n less) [
     in_arm x =
         let c = x.conditional in
         let z = (known.table).split_of x.row x.split c in
-        let part = (((known.table).formed).each x.row c.within).parts x.split (subst (λ m. HasPart m x.split) (sym c.node) (inl refl)) in
+        let part =
+        (((known.table).formed).each x.row c.within).parts x.split
+        (subst (λ m. HasPart m x.split) (sym c.node) (inl refl)) in
         let head : (region P n).head ≡ x.split = ap (λ (r : Region). r.head) x.region in
         record {
           below = omega (arith, c.within, part.1, head);
@@ -74,7 +77,9 @@ region_of {P} known {n} within other = elim ((known.table).region n less) [
     in_side x =
         let c = x.loop in
         let z = ((known.table).loop_is x.row (block P n) c).test in
-        let part = (((known.table).formed).each x.row c.within).parts c.switches (subst (λ m. HasPart m c.switches) (sym c.node) (inr (inl refl))) in
+        let part =
+        (((known.table).formed).each x.row c.within).parts c.switches
+        (subst (λ m. HasPart m c.switches) (sym c.node) (inr (inl refl))) in
         let head : (region P n).head ≡ c.switches = ap (λ (r : Region). r.head) x.region in
         record {
           below = omega (arith, c.within, part.1, head);
@@ -83,8 +88,10 @@ region_of {P} known {n} within other = elim ((known.table).region n less) [
         }
 
 -- as many loops are round rows of one block
-pub same_depth : (P : Checked) (i j b : ℕ) → block P i ≡ block P j → loops_between (rows P) i b ≡ loops_between (rows P) j b
-same_depth P i j b same = ap (λ h. loops_from (rows P) (length (rows P)) (at (rows P) h).node - loops_from (rows P) (length (rows P))
+pub same_depth : (P : Checked) (i j b : ℕ) → block P i ≡ block P j
+    → loops_between (rows P) i b ≡ loops_between (rows P) j b
+same_depth P i j b same =
+    ap (λ h. loops_from (rows P) (length (rows P)) (at (rows P) h).node - loops_from (rows P) (length (rows P))
     (at (rows P) (at (rows P) b).block).node) same
 
 itself : (m n : ℕ) → m ≡ n → m - n ≡ 0
@@ -94,7 +101,8 @@ pub no_depth : (P : Checked) (i b : ℕ) → block P i ≡ block P b → loops_b
 no_depth P i b same = itself _ _ (ap (λ h. loops_from (rows P) (length (rows P)) (at (rows P) h).node) same)
 
 -- none stands between a region and what is right in it
-pub own_depth : {P : Checked} (known : IsKnown P) {n : ℕ} → n < length (rows P) → (node P n ≡ Program → ⊥) → loops_between (rows P) (region P n).head n ≡ 0
+pub own_depth : {P : Checked} (known : IsKnown P) {n : ℕ} → n < length (rows P) → (node P n ≡ Program → ⊥)
+    → loops_between (rows P) (region P n).head n ≡ 0
 own_depth {P} known {n} within other = no_depth P (region P n).head n (region_of known within other).block
 
 -- a row with a node that is no head's is one of the table
@@ -108,7 +116,8 @@ true_false : true ≡ false → ⊥
 true_false h = cc
 
 -- an index is that of a loop with one
-pub index_loop : {P : Checked} (known : IsKnown P) {b x : ℕ} → b < length (rows P) → node P b ≡ Index x → (l : LoopOf P (block P b)) × IsCounted P l.all
+pub index_loop : {P : Checked} (known : IsKnown P) {b x : ℕ} → b < length (rows P) → node P b ≡ Index x
+    → (l : LoopOf P (block P b)) × IsCounted P l.all
 index_loop {P} known {b} {x} within is =
     let l = loop_of_row known (Index x) within is refl in
     let z = (known.table).index_of b x within is in
@@ -120,7 +129,8 @@ pub record LabelRow (P : Checked) (b : ℕ) : Type 0 where
   pub block : block P (label P b) ≡ block P b
   pub other : node P (label P b) ≡ Program → ⊥
 
-pub label_row : {P : Checked} (known : IsKnown P) {b : ℕ} → b < length (rows P) → is_binder (node P b) ≡ true → LabelRow P b
+pub label_row : {P : Checked} (known : IsKnown P) {b : ℕ} → b < length (rows P) → is_binder (node P b) ≡ true
+    → LabelRow P b
 label_row {P} known {b} within binds = by (node P b) refl binds
   where
     own : label P b ≡ b → (node P b ≡ Program → ⊥) → LabelRow P b
@@ -132,9 +142,16 @@ label_row {P} known {b} within binds = by (node P b) refl binds
 
     by : (m : Node) → node P b ≡ m → is_binder m ≡ true → LabelRow P b
     by (Param x k) is h = own (ap (label_by (block P b) b) is) (λ e. let bad : Param x k ≡ Program = sym is ∙ e in cc)
-    by (Binding x a) is h = own (ap (label_by (block P b) b) is) (λ e. let bad : Binding x a ≡ Program = sym is ∙ e in cc)
+    by (Binding x a) is h =
+        own (ap (label_by (block P b) b) is) (λ e. let bad : Binding x a ≡ Program = sym is ∙ e in cc)
     by (Next x k o v) is h =
-        let z = (known.table).next_in b (block P b) k x (record { outer = o; value = v; within = within; block = refl; node = is }) in
+        let z = (known.table).next_in b (block P b) k x (record {
+          outer = o;
+          value = v;
+          within = within;
+          block = refl;
+          node = is;
+        }) in
         let same : label P b ≡ block P b + 1 + k = ap (label_by (block P b) b) is in
         let there : node P (label P b) ≡ Variable = ap (node P) same ∙ z.2.variable in
         record {
@@ -149,7 +166,8 @@ label_row {P} known {b} within binds = by (node P b) refl binds
         let there : node P (label P b) ≡ Carried kinds.Int = ap (node P) same ∙ z.1.entry in
         record {
           within = row_within P (label P b) there (λ e. cc);
-          block = ap (block P) same ∙ (carried_stands P known (block P b) l z.1 (block P b + 1) (omega arith) (omega arith)).0;
+          block = ap (block P) same
+              ∙ (carried_stands P known (block P b) l z.1 (block P b + 1) (omega arith) (omega arith)).0;
           other = λ e. let bad : Carried kinds.Int ≡ Program = sym there ∙ e in cc;
         }
     by _ is h = absurd (true_false (sym h))
@@ -160,7 +178,8 @@ pub record HomeRow (P : Checked) (b : ℕ) : Type 0 where
   pub block : block P (home P b) ≡ block P b
   pub other : node P (home P b) ≡ Program → ⊥
 
-pub home_row : {P : Checked} (known : IsKnown P) {b : ℕ} → b < length (rows P) → is_binder (node P b) ≡ true → HomeRow P b
+pub home_row : {P : Checked} (known : IsKnown P) {b : ℕ} → b < length (rows P) → is_binder (node P b) ≡ true
+    → HomeRow P b
 home_row {P} known {b} within binds = by (node P b) refl binds
   where
     own : home P b ≡ b → (node P b ≡ Program → ⊥) → HomeRow P b
@@ -172,7 +191,8 @@ home_row {P} known {b} within binds = by (node P b) refl binds
 
     by : (m : Node) → node P b ≡ m → is_binder m ≡ true → HomeRow P b
     by (Param x k) is h = own (ap (home_by (block P b) b) is) (λ e. let bad : Param x k ≡ Program = sym is ∙ e in cc)
-    by (Binding x a) is h = own (ap (home_by (block P b) b) is) (λ e. let bad : Binding x a ≡ Program = sym is ∙ e in cc)
+    by (Binding x a) is h =
+        own (ap (home_by (block P b) b) is) (λ e. let bad : Binding x a ≡ Program = sym is ∙ e in cc)
     by (Index x) is h = own (ap (home_by (block P b) b) is) (λ e. let bad : Index x ≡ Program = sym is ∙ e in cc)
     by (Next x k o v) is h =
         let r = label_row known within binds in

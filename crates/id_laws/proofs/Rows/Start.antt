@@ -1,5 +1,6 @@
 -- What is there at the start: a signal and the way back for main's block, and an input for each of its parameters.
-use Rattle.std.proofs.Common.{◌≡◌, inl, inr, ℕ, zero, suc, ◌≤◌, ◌<◌, ◌==◌, true, false, Option, Some, List, [], ◌∷◌, length, map, slice_get, refl, sym, ◌∙◌, ap}
+use Rattle.std.proofs.Common.{◌≡◌, inl, inr, ℕ, zero, suc, ◌≤◌, ◌<◌, ◌==◌, true, false, Option, Some, List, [], ◌∷◌}
+use Rattle.std.proofs.Common.{length, map, slice_get, refl, sym, ◌∙◌, ap}
 use Rattle.std.proofs.Common.{subst, arith}
 use Rattle.std.specs.Prelude.{filter}
 use Rattle.std.proofs.lemmas.Bool.{eqb-true, eq-eqb}
@@ -73,7 +74,8 @@ instr_of_key (AtPort t p) = t.instr
 instr_of_key (ByFetch t) = t.instr
 instr_of_key (ByStore t) = t.instr
 
-module _ (S : Source) (g : Parts) (number : ℕ → ℕ → ℕ) (numbered : Numbered S.checked g number) (known : IsKnown S.checked) where
+module _ (S : Source) (g : Parts) (number : ℕ → ℕ
+    → ℕ) (numbered : Numbered S.checked g number) (known : IsKnown S.checked) where
   abbrev P : Checked
   P = S.checked
 
@@ -85,7 +87,12 @@ module _ (S : Source) (g : Parts) (number : ℕ → ℕ → ℕ) (numbered : Num
 
   pub main_within : main < length (rows P)
   main_within = let d = known.main in let f = (known.table).formed in
-      omega (arith, d.within, ((f.each P.main d.within).parts main (subst (λ m. Rattle.id_table.specs.Tables.HasPart m main) (sym d.node) (inl refl))).1)
+      omega (
+        arith,
+        d.within,
+        ((f.each P.main d.within).parts main
+            (subst (λ m. Rattle.id_table.specs.Tables.HasPart m main) (sym d.node) (inl refl))).1,
+      )
 
   answer_within : answer_row P < length (rows P)
   answer_within = let t = known.table in omega (arith, t.some)
@@ -104,13 +111,16 @@ module _ (S : Source) (g : Parts) (number : ℕ → ℕ → ℕ) (numbered : Num
       by Head is b =
           let d = t.has_def h within is in
           let e = d.1 in
-          let one : d.0 ≡ P.main = (known.apart).apart d.0 P.main e.within m.within (def_thing e.node) (def_thing m.node)
+          let one : d.0 ≡ P.main =
+          (known.apart).apart d.0 P.main e.within m.within (def_thing e.node) (def_thing m.node)
           (sym (known.head_place d.0 h e) ∙ same) in
           one_head (sym e.node ∙ ap (node P) one ∙ m.node)
       by (LoopHead s) is b =
           let l = loop_place P h s within is in
           let c = l.loop in
-          let one : l.row ≡ P.main = (known.apart).apart l.row P.main c.within m.within (ap is_thing c.node) (def_thing m.node) (sym l.place ∙ same) in
+          let one : l.row ≡ P.main =
+          (known.apart).apart l.row P.main c.within m.within (ap is_thing c.node) (def_thing m.node) (sym l.place
+          ∙ same) in
           absurd (loop_no_def (sym c.node ∙ ap (node P) one ∙ m.node))
       by _ is b = absurd (true_false (sym b))
 
@@ -120,21 +130,27 @@ module _ (S : Source) (g : Parts) (number : ℕ → ℕ → ℕ) (numbered : Num
   head_shows e _ b = absurd (true_false (sym b))
 
   -- a head's place and the answer's
-  main_test : (h : ℕ) → h < length (rows P) → begins_block (node P h) ≡ true → has_main_place g (block_of P number h) ≡ (place P h == place P P.main)
+  main_test : (h : ℕ) → h < length (rows P) → begins_block (node P h) ≡ true
+      → has_main_place g (block_of P number h) ≡ (place P h == place P P.main)
   main_test h within begins =
       let m = numbered.made h 0 _ _ (makes within (starts begins)) in
       let z = numbered.made (answer_row P) 0 _ _ (makes answer_within (answers (known.table).ends)) in
       same_places _ _ m.instr z.instr m.at (ap (slice_get g.instrs) (sym numbered.answer_first) ∙ z.at)
       ∙ (λ i. m.place i == z.place i)
-      ∙ (λ i. head_shows (place P h) (node P h) begins i == place_shown P (place P (answer_row P)) ((known.table).ends i))
+      ∙ (λ i. head_shows (place P h) (node P h) begins i == place_shown P (place P (answer_row P))
+      ((known.table).ends i))
 
   -- the first instructions of its entries are the labels of main's parameters
-  param_entries : (bs : List ℕ) → map (λ (q : Entry). number q.row q.part) (map param_entry bs) ≡ map (λ b. number b 0) bs
+  param_entries : (bs : List ℕ)
+      → map (λ (q : Entry). number q.row q.part) (map param_entry bs) ≡ map (λ b. number b 0) bs
   param_entries [] = refl
   param_entries (b ∷ bs) = ap (λ ns. number b 0 ∷ ns) (param_entries bs)
 
-  pub main_entries : map (λ (q : Entry). number q.row q.part) (entries P main) ≡ map (λ b. number b 0) (params_at (rows P) main)
-  main_entries = ap (λ m. map (λ (q : Entry). number q.row q.part) (entries_by P main m)) main_is_head ∙ param_entries (params_at (rows P) main)
+  pub main_entries : map (λ (q : Entry). number q.row q.part) (entries P main)
+      ≡ map (λ b. number b 0) (params_at (rows P) main)
+  main_entries =
+      ap (λ m. map (λ (q : Entry). number q.row q.part) (entries_by P main m)) main_is_head
+      ∙ param_entries (params_at (rows P) main)
 
   abbrev pub the_block : Block
   the_block = record { first = number main 0; entries = map (λ b. number b 0) (params_at (rows P) main) }
@@ -145,9 +161,12 @@ module _ (S : Source) (g : Parts) (number : ℕ → ℕ → ℕ) (numbered : Num
   pub main_block : filter (has_main_place g) g.blocks ≡ the_block ∷ []
   main_block =
       ap (filter (has_main_place g)) numbered.blocks
-      ∙ one_passes (has_main_place g) (block_of P number) (all_heads P) main (all_differ P) (all_listed P main main_within main_begins)
-      (main_test main main_within main_begins ∙ eq-eqb (place P main) (place P P.main) (known.head_place P.main main known.main))
-      (λ h among e. let z = any_head P h among in head_at h z.0 z.1 (eqb-true (place P h) (place P P.main) (sym (main_test h z.0 z.1) ∙ e)))
+      ∙ one_passes (has_main_place g) (block_of P number) (all_heads P) main (all_differ P)
+      (all_listed P main main_within main_begins)
+      (main_test main main_within main_begins
+      ∙ eq-eqb (place P main) (place P P.main) (known.head_place P.main main known.main))
+      (λ h among e. let z = any_head P h among in
+      head_at h z.0 z.1 (eqb-true (place P h) (place P P.main) (sym (main_test h z.0 z.1) ∙ e)))
       ∙ ap (λ es. record { first = number main 0; entries = es } ∷ []) main_entries
 
   -- the tokens that bring inputs to the labels of parameters, in order
@@ -160,18 +179,23 @@ module _ (S : Source) (g : Parts) (number : ℕ → ℕ → ℕ) (numbered : Num
       → map (λ (m : Message). m.payload) (input_messages k (map (λ x. number x 0) bs) vs) ≡ inputs_to bs vs
   inputs_sent k [] vs = refl
   inputs_sent k (b ∷ bs) [] = refl
-  inputs_sent k (b ∷ bs) (v ∷ vs) = ap (λ ms. Token (tag_in main_activation (number b 0)) Zero (constant_value v) ∷ ms) (inputs_sent (suc k) bs vs)
+  inputs_sent k (b ∷ bs) (v ∷ vs) =
+      ap (λ ms. Token (tag_in main_activation (number b 0)) Zero (constant_value v) ∷ ms) (inputs_sent (suc k) bs vs)
 
   abbrev pub signal_to : Payload
   signal_to = Token (tag_in main_activation (number main 0)) Zero Signal
 
   abbrev pub way_back_to : Payload
-  way_back_to = Token (tag_in main_activation (number main 1)) Zero (Continuation (tag_in main_activation (number (answer_row P) 0)))
+  way_back_to =
+      Token (tag_in main_activation (number main 1)) Zero
+      (Continuation (tag_in main_activation (number (answer_row P) 0)))
 
   pub starting_is : starting g S.inputs ≡ signal_to ∷ way_back_to ∷ inputs_to (params_at (rows P) main) S.inputs
   starting_is =
       ap (λ bs. map (λ (m : Message). m.payload) (block_messages bs S.inputs)) main_block
-      ∙ (λ i. signal_to ∷ Token (tag_in main_activation (sym (numbered.second_behind main (all_listed P main main_within (ap begins_block main_is_head))) i)) Zero
+      ∙ (λ i. signal_to
+      ∷ Token (tag_in main_activation
+      (sym (numbered.second_behind main (all_listed P main main_within (ap begins_block main_is_head))) i)) Zero
       (Continuation (tag_in main_activation (sym numbered.answer_first i)))
       ∷ inputs_sent 2 (params_at (rows P) main) S.inputs i)
 
@@ -200,7 +224,8 @@ module _ (S : Source) (g : Parts) (number : ℕ → ℕ → ℕ) (numbered : Num
   brings : (bs : List ℕ) (vs : List Constant) (x : Payload) → Among x (inputs_to bs vs) → Brings bs vs x
   brings [] vs x h = absurd h
   brings (b ∷ bs) [] x h = absurd h
-  brings (b ∷ bs) (v ∷ vs) x (inl is) = record { number_of = 0; row = b; value = v; param = refl; given = refl; is = is }
+  brings (b ∷ bs) (v ∷ vs) x (inl is) =
+      record { number_of = 0; row = b; value = v; param = refl; given = refl; is = is }
   brings (b ∷ bs) (v ∷ vs) x (inr h) =
       let t = brings bs vs x h in
       record { number_of = suc t.number_of; row = t.row; value = t.value; param = t.param; given = t.given; is = t.is }
@@ -241,7 +266,8 @@ module _ (S : Source) (g : Parts) (number : ℕ → ℕ → ℕ) (numbered : Num
         ]
       ]
 
-  input_listed : (bs : List ℕ) (vs : List Constant) (n b : ℕ) (v : Constant) → slice_get bs n ≡ Some b → slice_get vs n ≡ Some v
+  input_listed : (bs : List ℕ) (vs : List Constant) (n b : ℕ) (v : Constant) → slice_get bs n ≡ Some b
+      → slice_get vs n ≡ Some v
       → Among (Token (tag_in main_activation (number b 0)) Zero (constant_value v)) (inputs_to bs vs)
   input_listed [] vs n b v h k = cc
   input_listed (x ∷ bs) [] n b v h k = cc
@@ -262,10 +288,12 @@ module _ (S : Source) (g : Parts) (number : ℕ → ℕ → ℕ) (numbered : Num
 
   -- ---- none is there twice
 
-  number_of_key : {j k : Key} {m n : ℕ} {p q : Port} → j ≡ AtPort (tag_in main_activation m) p → k ≡ AtPort (tag_in main_activation n) q → j ≡ k → m ≡ n
+  number_of_key : {j k : Key} {m n : ℕ} {p q : Port} → j ≡ AtPort (tag_in main_activation m) p
+      → k ≡ AtPort (tag_in main_activation n) q → j ≡ k → m ≡ n
   number_of_key e e' same = ap instr_of_key (sym e ∙ same ∙ e')
 
-  inputs_apart : (k : Key) (bs : List ℕ) (vs : List Constant) → ((b : ℕ) → Among b bs → IsPart P b 0) → AllDiffer bs → count_for k (inputs_to bs vs) ≤ 1
+  inputs_apart : (k : Key) (bs : List ℕ) (vs : List Constant) → ((b : ℕ) → Among b bs → IsPart P b 0) → AllDiffer bs
+      → count_for k (inputs_to bs vs) ≤ 1
   inputs_apart k [] vs part differ = omega (arith, count_none k)
   inputs_apart k (b ∷ bs) [] part differ = omega (arith, count_none k)
   inputs_apart k (b ∷ bs) (v ∷ vs) part differ =
@@ -274,11 +302,13 @@ module _ (S : Source) (g : Parts) (number : ℕ → ℕ → ℕ) (numbered : Num
       (λ y h same.
       let z = brings bs vs y h in
       let among = Among-from_at z.row bs z.number_of z.param in
-      let one = one_part numbered (part b (inl refl)) (part z.row (inr among)) (number_of_key refl (ap key_of z.is) same) in
+      let one =
+      one_part numbered (part b (inl refl)) (part z.row (inr among)) (number_of_key refl (ap key_of z.is) same) in
       differ.0 (subst (λ w. Among w bs) (sym one.0) among))
 
   -- what goes to the head is no input
-  no_input : (part : ℕ) → IsPart P main part → (x y : Payload) (v : Value) → x ≡ Token (tag_in main_activation (number main part)) Zero v
+  no_input : (part : ℕ) → IsPart P main part → (x y : Payload) (v : Value)
+      → x ≡ Token (tag_in main_activation (number main part)) Zero v
       → Among y (inputs_to (params_at (rows P) main) S.inputs) → key_of x ≡ key_of y → ⊥
   no_input part made x y v is h same =
       let z = brings (params_at (rows P) main) S.inputs y h in
@@ -297,7 +327,10 @@ module _ (S : Source) (g : Parts) (number : ℕ → ℕ → ℕ) (numbered : Num
       (λ y h same. no_input 1 (part_of main_within (returns main_is_head)) way_back_to y _ refl h same))
       (λ y h same.
       elim h [
-        | inl is ↦ zero_one (one_part numbered (part_of main_within (starts (ap begins_block main_is_head))) (part_of main_within (returns main_is_head))
+        | inl is ↦ zero_one
+            (one_part numbered (part_of main_within (starts (ap begins_block main_is_head)))
+            (part_of main_within (returns main_is_head))
             (number_of_key refl (ap key_of is) same)).1
-        | inr more ↦ no_input 0 (part_of main_within (starts (ap begins_block main_is_head))) signal_to y _ refl more same
+        | inr more ↦ no_input 0 (part_of main_within (starts (ap begins_block main_is_head))) signal_to y _ refl more
+            same
       ]))

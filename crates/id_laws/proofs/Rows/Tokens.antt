@@ -17,9 +17,10 @@ pub token_is : {t u : Tag} {p q : Port} {v w : Value} → Token t p v ≡ Token 
 token_is h = (cc, (cc, cc))
 
 -- parts with one number are one
-pub one_part : {P : Checked} {g : Parts} {number : ℕ → ℕ → ℕ} {n k n' k' : ℕ} → Numbered P g number → IsPart P n k → IsPart P n' k'
-    → number n k ≡ number n' k' → (n ≡ n') × (k ≡ k')
-one_part {n = n} {k = k} {n' = n'} {k' = k'} numbered x y e = numbered.apart n k n' k' x.form y.form x.place y.place x.makes y.makes e
+pub one_part : {P : Checked} {g : Parts} {number : ℕ → ℕ → ℕ} {n k n' k' : ℕ} → Numbered P g number → IsPart P n k
+    → IsPart P n' k' → number n k ≡ number n' k' → (n ≡ n') × (k ≡ k')
+one_part {n = n} {k = k} {n' = n'} {k' = k'} numbered x y e =
+    numbered.apart n k n' k' x.form y.form x.place y.place x.makes y.makes e
 
 -- the activation and the number of a tag
 pub same_activation : (a a' : Activation) (m n : ℕ) → tag_in a m ≡ tag_in a' n → a ≡ a'
@@ -39,6 +40,7 @@ told_at S g number run numbered a n k p v part x =
     let acts = same_activation a x.activation (number n k) (number x.row x.part) tags in
     let ports : p ≡ x.port = parts.1.0 in
     let values : v ≡ x.value = parts.1.1 in
-    subst (λ (z : Activation × (ℕ × (ℕ × (Port × Value)))). Tells S number run z.0 (topic_at S.checked z.1.0 z.1.1.0 z.1.1.1.0) z.1.1.1.1)
+    subst (λ (z : Activation × (ℕ × (ℕ × (Port × Value)))). Tells S number run z.0
+    (topic_at S.checked z.1.0 z.1.1.0 z.1.1.1.0) z.1.1.1.1)
     {x = (x.activation, (x.row, (x.part, (x.port, x.value))))} {y = (a, (n, (k, (p, v))))}
     (λ i. (sym acts i, (sym at.0 i, (sym at.1 i, (sym ports i, sym values i))))) x.tells

@@ -38,14 +38,20 @@ use Rattle.id_laws.proofs.Telling.TurnedOn.{without_none}
 some_value : {v w : SourceValue} → Some v ≡ Some w → v ≡ w
 some_value e = cc
 
-module _ (S : Source) (known : IsKnown S.checked) (g : Parts) (number : ℕ → ℕ → ℕ) (numbered : Numbered S.checked g number) (count : ℕ)
+module _ (S : Source) (known : IsKnown S.checked) (g : Parts) (number : ℕ → ℕ
+    → ℕ) (numbered : Numbered S.checked g number) (count : ℕ)
     (s : World) (run : List Event) (r : Reach g S.inputs count s run) (backed : IsBacked S run) where
   abbrev P : Checked
   P = S.checked
 
   -- the site of a tag of a part: at its activation's path, and at the place that the part shows
-  pub site_shown : (a : Activation) (n part : ℕ) (p : Path) → IsPart P n part → Live S number run a (region P n) → PathOf S number run a p
-      → site_at g (shown.path_in g s.elements) (tag_in a (number n part)) ≡ record { path = p; place = place_shown P (place P n) (node P n) }
+  pub site_shown : (a : Activation) (n part : ℕ) (p : Path) → IsPart P n part → Live S number run a (region P n)
+      → PathOf S number run a p
+      → site_at g (shown.path_in g s.elements) (tag_in a (number n part)) ≡ record {
+        path = p;
+        place =
+            place_shown P (place P n) (node P n);
+      }
   site_shown a n part p is_part live at =
       (λ i. record {
         path = path_shown S known g number numbered count s run r backed (tag_in a (number n part)) p live at i;
@@ -53,8 +59,11 @@ module _ (S : Source) (known : IsKnown S.checked) (g : Parts) (number : ℕ → 
       })
 
   -- an `array` is made by an `alloc`
-  pub array_op : {nested : _} {n low high : ℕ} → n < length (rows P) → node P n ≡ Array nested low high → op_at g (number n 0) ≡ Some (op.Alloc nested)
-  array_op {n = n} within is = let m = numbered.made n 0 _ _ (makes within (allocates is)) in ap (option_map (λ (i : Instr). i.op)) m.at ∙ ap (λ z. Some z) m.op
+  pub array_op : {nested : _} {n low high : ℕ} → n < length (rows P) → node P n ≡ Array nested low high
+      → op_at g (number n 0) ≡ Some (op.Alloc nested)
+  array_op {n = n} within is =
+      let m = numbered.made n 0 _ _ (makes within (allocates is)) in
+      ap (option_map (λ (i : Instr). i.op)) m.at ∙ ap (λ z. Some z) m.op
 
   -- what a structure is called is what it is shown to be
   pub name_shown : (z : Structure) (x : Site) → Named S number run z x → shown.structure_in g s.elements z ≡ x
@@ -62,11 +71,13 @@ module _ (S : Source) (known : IsKnown S.checked) (g : Parts) (number : ℕ → 
       let t = tag_in y.activation (number y.row 0) in
       let maker = made_under g S.inputs count s run r y.made (array_op y.within y.node) in
       let at = site_shown y.activation y.row 0 x.path (part_of y.within (allocates y.node)) y.live y.path_of in
-      let here : place_shown P (place P y.row) (node P y.row) ≡ x.place = ap (place_shown P (place P y.row)) y.node ∙ sym y.place in
+      let here : place_shown P (place P y.row) (node P y.row) ≡ x.place =
+      ap (place_shown P (place P y.row)) y.node ∙ sym y.place in
       ap (name_by g (shown.path_in g s.elements)) maker ∙ at ∙ (λ i. record { path = x.path; place = here i })
 
   -- the value of a token that stands for one of the source, as the source's
-  pub stands_shown : {v : Value} {w : SourceValue} → StandsFor S number run v w → shown.source_value (shown.structure_in g s.elements) v ≡ Some w
+  pub stands_shown : {v : Value} {w : SourceValue} → StandsFor S number run v w
+      → shown.source_value (shown.structure_in g s.elements) v ≡ Some w
   stands_shown (number_stands n) = refl
   stands_shown (truth_stands b) = refl
   stands_shown (name_stands z x y) = ap (λ q. Some (source.Name q)) (name_shown z x y)

@@ -1,5 +1,7 @@
--- No event of a schemas' graph is `Stuck`, no port gets two tokens under one tag, and no fetch asks and no store stores twice.
-use Rattle.std.proofs.Common.{◌≡◌, ◌≢◌, ℕ, ◌+◌, ◌≤◌, Bool, cond, List, [], ◌∷◌, map, refl, sym, ◌∙◌, subst, count_by, arith}
+-- No event of a schemas' graph is `Stuck`, no port gets two tokens under one tag, and no fetch asks and no store stores
+-- twice.
+use Rattle.std.proofs.Common.{◌≡◌, ◌≢◌, ℕ, ◌+◌, ◌≤◌, Bool, cond, List, [], ◌∷◌, map, refl, sym, ◌∙◌, subst, count_by}
+use Rattle.std.proofs.Common.{arith}
 use Rattle.std.proofs.lemmas.List.Sums.{sum_by-cons}
 use Rattle.id_value.specs.List.{Among}
 use Rattle.id_instr.specs.declared.dests.Port.{Port}
@@ -42,28 +44,34 @@ stores_test t (Token u q v) = refl
 stores_test t (Read c u) = refl
 stores_test t (Write c v u) = refl
 
-counts_alike : (f : Payload → Bool) (k : Key) → ((x : Payload) → f x ≡ same_key (key_of x) k) → (xs : List Payload) → count_by f xs ≡ count_for k xs
+counts_alike : (f : Payload → Bool) (k : Key) → ((x : Payload) → f x ≡ same_key (key_of x) k) → (xs : List Payload)
+    → count_by f xs ≡ count_for k xs
 counts_alike f k same [] = refl
 counts_alike f k same (x ∷ xs) =
     sum_by-cons (λ y. cond (f y) 1 0) x xs
     ∙ (λ i. cond (same x i) 1 0 + counts_alike f k same xs i)
     ∙ sym (sum_by-cons (λ y. cond (same_key (key_of y) k) 1 0) x xs)
 
-module _ (S : Source) (g : Parts) (count : ℕ) (only : Exclusive g S.inputs count) (s : World) (run : List Event) (r : Reach g S.inputs count s run) where
+module _ (S : Source) (g : Parts) (count : ℕ) (only : Exclusive g S.inputs count) (s : World) (run : List Event)
+    (r : Reach g S.inputs count s run) where
   not_stuck : (e : Event) → Among e run → came_to e ≡ Stuck → ⊥
   not_stuck (Took n t p v a) among is =
-      never_blocked g S.inputs count only s run r n t p v (subst (λ b. Among (Took n t p v b) run) (stuck_blocked t a is) among)
+      never_blocked g S.inputs count only s run r n t p v
+      (subst (λ b. Among (Took n t p v b) run) (stuck_blocked t a is) among)
   not_stuck (Looked n c t a) among is = cc
   not_stuck (Wrote n c v w a) among is =
-      let own : WrittenBy run c v w (Second w) = record { element = n; among = subst (λ b. Among (Wrote n c v w b) run) (stuck_write c v w a is) among } in
-      finds_other run (cell_at count s) (cells_exact g S.inputs count s run r) (few g S.inputs count only s run r) c v w w own refl
+      let own : WrittenBy run c v w (Second w) =
+      record { element = n; among = subst (λ b. Among (Wrote n c v w b) run) (stuck_write c v w a is) among } in
+      finds_other run (cell_at count s) (cells_exact g S.inputs count s run r) (few g S.inputs count only s run r) c v w
+      w own refl
 
   goes_on : (v : EventView) → Among v (events s) → v.step ≢ Stuck
   goes_on v among is =
       let known = from_record g S.inputs count s run r v (recorded s v among) in
       not_stuck known.0 known.1 (sym (known.2).step ∙ is)
 
-  one_message : (f : Payload → Bool) (k : Key) → ((x : Payload) → f x ≡ same_key (key_of x) k) → count_by f (messages s) ≤ 1
+  one_message : (f : Payload → Bool) (k : Key) → ((x : Payload) → f x ≡ same_key (key_of x) k)
+      → count_by f (messages s) ≤ 1
   one_message f k same =
       omega (
         arith,

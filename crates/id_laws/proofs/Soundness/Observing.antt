@@ -27,7 +27,8 @@ part_place {n = n} {part = part} numbered x =
     let m = numbered.made n part x.form x.place x.makes in
     ap (λ (o : Option Instr). option_map_or (λ (j : Instr). j.place) o 0) m.at ∙ m.place ∙ (doing x.makes).place_is
 
-module _ (g : Parts) (inputs : List Constant) (count : ℕ) (s : World) (run : List Event) (r : Reach g inputs count s run) where
+module _ (g : Parts) (inputs : List Constant) (count : ℕ) (s : World) (run : List Event)
+    (r : Reach g inputs count s run) where
   -- an event of a record is one of the run
   pub handled_event : (v : EventView) → Among v (events s) → (e : Event) × Among e run × Shows g v e
   handled_event v among = from_record g inputs count s run r v (recorded s v among)

@@ -1,5 +1,6 @@
 -- The answer that a run of a schemas' graph shows is the source's.
-use Rattle.std.proofs.Common.{◌≡◌, inr, ℕ, Bool as Truth, true, false, cond, Option, Some, None, List, slice_get, refl, sym, ◌∙◌, ap, subst}
+use Rattle.std.proofs.Common.{◌≡◌, inr, ℕ, Bool as Truth, true, false, cond, Option, Some, None, List, slice_get, refl}
+use Rattle.std.proofs.Common.{sym, ◌∙◌, ap, subst}
 use Rattle.std.specs.Prelude.{option_and_then}
 use Rattle.id_value.specs.List.{Among}
 use Rattle.id_value.proofs.AmongLemmas.{Among-from_at}
@@ -53,16 +54,23 @@ brought_is (Read c t) w e = cc
 brought_is (Write c v t) w e = cc
 brought_is (Token t p v) w e = go (same_tag t (main_tag 0)) refl e
   where
-    go : (b : Truth) → same_tag t (main_tag 0) ≡ b → cond b (Some v) None ≡ Some w → (q : Port) × (Token t p v ≡ Token (main_tag 0) q w)
-    go true f e = (p, let tag_is = one_from_same_tag t (main_tag 0) f in let value_is : v ≡ w = cc in (λ i. Token (tag_is i) p (value_is i)))
+    go : (b : Truth) → same_tag t (main_tag 0) ≡ b → cond b (Some v) None ≡ Some w
+        → (q : Port) × (Token t p v ≡ Token (main_tag 0) q w)
+    go true f e = (
+      p,
+      let tag_is = one_from_same_tag t (main_tag 0) f in let value_is : v ≡ w = cc in
+          (λ i. Token (tag_is i) p (value_is i)),
+    )
     go false f e = cc
 
-pub first_is : (name : Structure → Site) (o : Option Value) (v : SourceValue) → option_and_then (shown.source_value name) o ≡ Some v
+pub first_is : (name : Structure → Site) (o : Option Value) (v : SourceValue)
+    → option_and_then (shown.source_value name) o ≡ Some v
     → (w : Value) × (o ≡ Some w) × (shown.source_value name w ≡ Some v)
 first_is name None v e = cc
 first_is name (Some w) v e = (w, refl, e)
 
-module _ (S : Source) (known : IsKnown S.checked) (g : Parts) (number : ℕ → ℕ → ℕ) (numbered : Numbered S.checked g number) (count : ℕ) (s : World)
+module _ (S : Source) (known : IsKnown S.checked) (g : Parts) (number : ℕ → ℕ
+    → ℕ) (numbered : Numbered S.checked g number) (count : ℕ) (s : World)
     (run : List Event) (r : Reach g S.inputs count s run) (backed : IsBacked S run) where
   abbrev P : Checked
   P = S.checked
@@ -70,7 +78,9 @@ module _ (S : Source) (known : IsKnown S.checked) (g : Parts) (number : ℕ → 
   -- what main's block gives is main's body's value
   pub main_result : result_of P (main_head P) ≡ main_body P
   main_result =
-      let def = end_is P (known.table) (main_head P) (main_within S g number numbered known) (main_is_head S g number numbered known) in
+      let def =
+      end_is P (known.table) (main_head P) (main_within S g number numbered known)
+      (main_is_head S g number numbered known) in
       let one = (known.table).one_def (end_of P (main_head P)) P.main (main_head P) def known.main in
       ap (λ n. result_at (node P n)) one ∙ ap result_at (known.main).node ∙ sym (ap body_of (known.main).node)
 
@@ -80,12 +90,18 @@ module _ (S : Source) (known : IsKnown S.checked) (g : Parts) (number : ℕ → 
   answer_tells p w h =
       let ends = (known.table).ends in
       let is_part = part_of (last_row (known.table).some) (answers ends) in
-      let at : main_tag 0 ≡ tag_in main_activation (number (answer_row P) 0) = ap (tag_in main_activation) (sym numbered.answer_first) in
-      let told = subst (λ t. Told S number run (Token t p w)) at (all_tell S known g number numbered run count s r backed (Token (main_tag 0) p w) (inr h)) in
+      let at : main_tag 0 ≡ tag_in main_activation (number (answer_row P) 0) =
+      ap (tag_in main_activation) (sym numbered.answer_first) in
+      let told =
+      subst (λ t. Told S number run (Token t p w)) at
+      (all_tell S known g number numbered run count s r backed (Token (main_tag 0) p w) (inr h)) in
       let tells = told_at S g number run numbered main_activation (answer_row P) 0 p w is_part told in
-      by_port p (subst (λ m. Tells S number run main_activation (wants P (answer_row P) (region P (answer_row P)) m 0 p) w) ends tells)
+      by_port p
+      (subst (λ m. Tells S number run main_activation (wants P (answer_row P) (region P (answer_row P)) m 0 p) w) ends
+      tells)
     where
-      by_port : (q : Port) → Tells S number run main_activation (wants P (answer_row P) (region P (answer_row P)) Program 0 q) w
+      by_port : (q : Port)
+          → Tells S number run main_activation (wants P (answer_row P) (region P (answer_row P)) Program 0 q) w
           → (q ≡ Zero) × ShownResult S number run main_activation (main_head P) w
       by_port Zero x = (refl, x)
       by_port One x = absurd x
@@ -100,8 +116,12 @@ module _ (S : Source) (known : IsKnown S.checked) (g : Parts) (number : ℕ → 
       let shows = (answer_tells came.0 first.0 (subst (λ x. Among x (handled run)) came.1 h)).1 in
       let first_iteration : shows.iteration ≡ 0 =
       (seats S known g number numbered run count s r).first known.main
-      (subst (λ b. Live S number run (at_iteration main_context shows.iteration) (region P b)) (main_result ∙ ap body_of (known.main).node) shows.live) in
-      let shown_path = subst (λ k. PathOf S number run (at_iteration main_context k) (shows.shown).path) first_iteration (shows.shown).path_of in
+      (subst (λ b. Live S number run (at_iteration main_context shows.iteration) (region P b)) (main_result
+      ∙ ap body_of (known.main).node) shows.live) in
+      let shown_path =
+      subst (λ k. PathOf S number run (at_iteration main_context k) (shows.shown).path) first_iteration
+      (shows.shown).path_of in
       let path_is = main_path_is (seats S known g number numbered run count s r) shown_path in
-      subst (λ (z : Path × ℕ). Holds S (Has z.0 (place P z.1) v)) {x = ((shows.shown).path, result_of P (main_head P))} {y = (outermost, main_body P)}
+      subst (λ (z : Path × ℕ). Holds S (Has z.0 (place P z.1) v)) {x =
+      ((shows.shown).path, result_of P (main_head P))} {y = (outermost, main_body P)}
       (λ i. (path_is i, main_result i)) (shown_holds S known g number numbered count s run r backed shows.shown first.2)

@@ -62,7 +62,8 @@ use Rattle.id_laws.proofs.Paths.TagPaths.{path_shown}
 
 -- a fault that is shown, where each tag has this path and each structure this name
 data FaultShown (g : Parts) (path : Tag → Path) (name : Structure → Site) (x : Step) (f : SourceFault) : Type 0 where
-  of_operator : (k : FaultKind) (t : Tag) → x ≡ Fault (Operator k t) → f ≡ fault.Operator k (shown.site_at g path t) → FaultShown g path name x f
+  of_operator : (k : FaultKind) (t : Tag) → x ≡ Fault (Operator k t) → f ≡ fault.Operator k (shown.site_at g path t)
+      → FaultShown g path name x f
   of_store : (c : Cell) (t u : Tag) → x ≡ Fault (SecondStore c t u)
       → f ≡ shown.second_store (name c.structure) c.index (shown.site_at g path t) (shown.site_at g path u)
       → FaultShown g path name x f
@@ -70,8 +71,8 @@ data FaultShown (g : Parts) (path : Tag → Path) (name : Structure → Site) (x
 some_fault : {f h : SourceFault} → Some f ≡ Some h → h ≡ f
 some_fault e = cc
 
-fault_is : (g : Parts) (path : Tag → Path) (name : Structure → Site) (x : Step) (f : SourceFault) → shown.fault_of g path name x ≡ Some f
-    → FaultShown g path name x f
+fault_is : (g : Parts) (path : Tag → Path) (name : Structure → Site) (x : Step) (f : SourceFault)
+    → shown.fault_of g path name x ≡ Some f → FaultShown g path name x f
 fault_is g path name Went f e = cc
 fault_is g path name (Fault (Operator k t)) f e = of_operator k t refl (some_fault e)
 fault_is g path name (Fault (SecondStore c t u)) f e = of_store c t u refl (some_fault e)
@@ -80,7 +81,8 @@ fault_is g path name Stuck f e = cc
 same_fault : {k k' : FaultKind} {t t' : Tag} → Fault (Operator k t) ≡ Fault (Operator k' t') → (k ≡ k') × (t ≡ t')
 same_fault e = (cc, cc)
 
-same_store : {c c' : Cell} {t t' u u' : Tag} → Fault (SecondStore c t u) ≡ Fault (SecondStore c' t' u') → (c ≡ c') × ((t ≡ t') × (u ≡ u'))
+same_store : {c c' : Cell} {t t' u u' : Tag} → Fault (SecondStore c t u) ≡ Fault (SecondStore c' t' u')
+    → (c ≡ c') × ((t ≡ t') × (u ≡ u'))
 same_store e = (cc, (cc, cc))
 
 no_operator : {k : FaultKind} {t u w : Tag} {c : Cell} → Fault (Operator k t) ≡ Fault (SecondStore c u w) → ⊥
@@ -105,33 +107,51 @@ site_cmp_is a b = by (slice_cmp step_cmp a.path.steps b.path.steps) refl
     along : a.path ≡ b.path → (o : Ordering) → nat_cmp a.place b.place ≡ o → SitesAs o a b
     along p Less e = inr (p, less_number a.place b.place e)
     along p Equal e = (λ i. record { path = p i; place = same_number a.place b.place e i })
-    along p Greater e = inr (sym p, less_number b.place a.place (nat_cmp_total.antisymm b.place a.place ∙ ap ordering_reverse e))
+    along p Greater e =
+        inr (sym p, less_number b.place a.place (nat_cmp_total.antisymm b.place a.place ∙ ap ordering_reverse e))
 
-    by : (o : Ordering) → slice_cmp step_cmp a.path.steps b.path.steps ≡ o → (z : Ordering) × (shown.site_cmp a b ≡ z) × SitesAs z a b
-    by Less e = (Less, ap (λ o. ordering_then o (nat_cmp a.place b.place)) e, inl (less_steps a.path.steps b.path.steps e))
+    by : (o : Ordering) → slice_cmp step_cmp a.path.steps b.path.steps ≡ o
+        → (z : Ordering) × (shown.site_cmp a b ≡ z) × SitesAs z a b
+    by Less e =
+        (Less, ap (λ o. ordering_then o (nat_cmp a.place b.place)) e, inl (less_steps a.path.steps b.path.steps e))
     by Equal e =
-        let same = same_path a.path b.path (same_steps a.path.steps b.path.steps e) in
-        (nat_cmp a.place b.place, ap (λ o. ordering_then o (nat_cmp a.place b.place)) e, along same (nat_cmp a.place b.place) refl)
+        let same = same_path a.path b.path (same_steps a.path.steps b.path.steps e) in (
+          nat_cmp a.place b.place,
+          ap (λ o. ordering_then o (nat_cmp a.place b.place)) e,
+          along same (nat_cmp a.place b.place) refl,
+        )
     by Greater e = (
       Greater,
       ap (λ o. ordering_then o (nat_cmp a.place b.place)) e,
-      inl (less_steps b.path.steps a.path.steps ((lists_total step_total).antisymm b.path.steps a.path.steps ∙ ap ordering_reverse e)),
+      inl (less_steps b.path.steps a.path.steps ((lists_total step_total).antisymm b.path.steps a.path.steps
+          ∙ ap ordering_reverse e)),
     )
 
 -- two stores into one cell, at two sites, are a fault
-stored_twice : (S : Source) (x a b : Site) (j : ℤ) (v w : SourceValue) → Holds S (put x j v a) → Holds S (put x j w b) → (a ≡ b → ⊥)
-    → Faulty S (shown.second_store x j a b)
+stored_twice : (S : Source) (x a b : Site) (j : ℤ) (v w : SourceValue) → Holds S (put x j v a) → Holds S (put x j w b)
+    → (a ≡ b → ⊥) → Faulty S (shown.second_store x j a b)
 stored_twice S x a b j v w h k differ = by (site_cmp_is a b)
   where
     by : (z : Ordering) × (shown.site_cmp a b ≡ z) × SitesAs z a b → Faulty S (shown.second_store x j a b)
     by t = ap_fault t.0 t.1 t.2
       where
         ap_fault : (z : Ordering) → shown.site_cmp a b ≡ z → SitesAs z a b → Faulty S (shown.second_store x j a b)
-        ap_fault Less is less = subst (λ o. Faulty S (stores_as o x j a b)) (sym is) (record { premises = _; rule = second_store less; hold = (h, (k, tt)) })
+        ap_fault Less is less =
+            subst (λ o. Faulty S (stores_as o x j a b)) (sym is) (record {
+              premises = _;
+              rule = second_store less;
+              hold = (h, (k, tt));
+            })
         ap_fault Equal is same = absurd (differ same)
-        ap_fault Greater is more = subst (λ o. Faulty S (stores_as o x j a b)) (sym is) (record { premises = _; rule = second_store more; hold = (k, (h, tt)) })
+        ap_fault Greater is more =
+            subst (λ o. Faulty S (stores_as o x j a b)) (sym is) (record {
+              premises = _;
+              rule = second_store more;
+              hold = (k, (h, tt));
+            })
 
-module _ (S : Source) (known : IsKnown S.checked) (g : Parts) (number : ℕ → ℕ → ℕ) (numbered : Numbered S.checked g number) (count : ℕ) (s : World)
+module _ (S : Source) (known : IsKnown S.checked) (g : Parts) (number : ℕ → ℕ
+    → ℕ) (numbered : Numbered S.checked g number) (count : ℕ) (s : World)
     (run : List Event) (r : Reach g S.inputs count s run) (backed : IsBacked S run) where
   abbrev P : Checked
   P = S.checked
@@ -149,7 +169,8 @@ module _ (S : Source) (known : IsKnown S.checked) (g : Parts) (number : ℕ → 
   FaultyAt k t = Faulty S (fault.Operator k (site_of t))
 
   -- a firing that is a fault is one of the source
-  failed_as : (t : Tag) (f : Fired) → FiresAs run t f → (k : FaultKind) (u : Tag) → fired_step t f ≡ Fault (Operator k u) → FaultyAt k u
+  failed_as : (t : Tag) (f : Fired) → FiresAs run t f → (k : FaultKind) (u : Tag)
+      → fired_step t f ≡ Fault (Operator k u) → FaultyAt k u
   failed_as t (Out v) x k u e = cc
   failed_as t (Side b v) x k u e = cc
   failed_as t (Entered c) x k u e = cc
@@ -160,16 +181,19 @@ module _ (S : Source) (known : IsKnown S.checked) (g : Parts) (number : ℕ → 
   failed_as t Nothing x k u e = cc
   failed_as t (Failed j) x k u e =
       let same = same_fault e in
-      let m = firing_tells S known g number numbered run (seats S known g number numbered run count s r) (structures_apart g S.inputs count s run r) backed run r
+      let m = firing_tells S known g number numbered run (seats S known g number numbered run count s r)
+      (structures_apart g S.inputs count s run r) backed run r
       (λ z h. all_tell S known g number numbered run count s r backed z (inr h)) x in
       let y = m.0 in
       let at : FaultAt S number run (activation_of t) y.row j = m.1 in
       let here : shown.place_of g u.instr ≡ place P y.row =
-      ap (λ (w : Tag). shown.place_of g w.instr) (sym same.1) ∙ ap (λ (w : Tag). shown.place_of g w.instr) (sym y.at) ∙ part_place numbered y.is_part
+      ap (λ (w : Tag). shown.place_of g w.instr) (sym same.1) ∙ ap (λ (w : Tag). shown.place_of g w.instr) (sym y.at)
+      ∙ part_place numbered y.is_part
       ∙ at.shows in
       let path_is : tag_path u ≡ at.path = ap tag_path (sym same.1)
       ∙ path_shown S known g number numbered count s run r backed t at.path at.live at.path_of in
-      subst (λ (z : FaultKind × (Path × ℕ)). Faulty S (fault.Operator z.0 (site z.1.0 z.1.1))) {x = (j, (at.path, place P y.row))}
+      subst (λ (z : FaultKind × (Path × ℕ)). Faulty S (fault.Operator z.0 (site z.1.0 z.1.1))) {x =
+      (j, (at.path, place P y.row))}
       {y = (k, (tag_path u, shown.place_of g u.instr))}
       (λ i. (same.0 i, (sym path_is i, sym here i))) at.faulty
 
@@ -191,10 +215,17 @@ module _ (S : Source) (known : IsKnown S.checked) (g : Parts) (number : ℕ → 
   found c v w (Second x) f e = by (same_tag x w) refl e
     where
       by : (b : Bool) → same_tag x w ≡ b → full_step (Write c v w) (cond b verdict.Stuck (verdict.Second x)) ≡ f
-          → (f ≡ Went) ⊎ ((f ≡ Stuck) ⊎ ((y : Tag) × (Second x ≡ Second y) × (y ≡ w → ⊥) × (f ≡ Fault (SecondStore c y w))))
+          → (f ≡ Went)
+          ⊎ ((f ≡ Stuck) ⊎ ((y : Tag) × (Second x ≡ Second y) × (y ≡ w → ⊥) × (f ≡ Fault (SecondStore c y w))))
       by true is z = inr (inl (sym z))
       by false is z =
-          inr (inr (x, refl, (λ same. let bad : true ≡ false = sym (same_tag_laws.refl w) ∙ ap (λ y. same_tag y w) (sym same) ∙ is in cc), sym z))
+          inr (inr (
+            x,
+            refl,
+            (λ same. let bad : true ≡ false = sym (same_tag_laws.refl w) ∙ ap (λ y. same_tag y w) (sym same) ∙ is in
+                cc),
+            sym z,
+          ))
 
   -- a second store is one of the source
   stored : (c : Cell) (v : Value) (w x : Tag) → WrittenBy run c v w (Second x) → (x ≡ w → ⊥)
@@ -204,14 +235,16 @@ module _ (S : Source) (known : IsKnown S.checked) (g : Parts) (number : ℕ → 
       let told = written_told S known g number numbered count s run r backed y in
       let before = written_told S known g number numbered count s run r backed first.2 in
       stored_twice S (name_of c.structure) (site_of x) (site_of w) c.index before.value told.value
-      (put_shown S known g number numbered count s run r backed before) (put_shown S known g number numbered count s run r backed told)
+      (put_shown S known g number numbered count s run r backed before)
+      (put_shown S known g number numbered count s run r backed told)
       (λ same. differ (one_store S known g number numbered count s run r backed before told same))
 
   -- an event that comes to a fault has failed
   failed : (e : Event) (k : FaultKind) (t : Tag) → Among e run → came_to e ≡ Fault (Operator k t) → FaultyAt k t
   failed (Took n t p v Waits) k u among is = cc
   failed (Took n t p v Blocked) k u among is = cc
-  failed (Took n t p v (Fires ops f)) k u among is = failed_as t f (record { element = n; port = p; value = v; operands = ops; among = among }) k u is
+  failed (Took n t p v (Fires ops f)) k u among is =
+      failed_as t f (record { element = n; port = p; value = v; operands = ops; among = among }) k u is
   failed (Looked n c t a) k u among is = cc
   failed (Wrote n c v w a) k u among is =
       elim (found c v w a (Fault (Operator k u)) is) [
@@ -233,8 +266,11 @@ module _ (S : Source) (known : IsKnown S.checked) (g : Parts) (number : ℕ → 
         | inr (inl stuck) ↦ (let bad : Fault (SecondStore c x u) ≡ Stuck = stuck in cc)
         | inr (inr z) ↦
             let same = same_store z.3 in
-            let y : WrittenBy run d v w (Second z.0) = record { element = n; among = subst (λ b. Among (Wrote n d v w b) run) z.1 among } in
-            subst (λ (k : Cell × (Tag × Tag)). Faulty S (shown.second_store (name_of k.0.structure) k.0.index (site_of k.1.0) (site_of k.1.1)))
+            let y : WrittenBy run d v w (Second z.0) =
+            record { element = n; among = subst (λ b. Among (Wrote n d v w b) run) z.1 among } in
+            subst (λ (k : Cell
+            × (Tag × Tag)). Faulty S
+            (shown.second_store (name_of k.0.structure) k.0.index (site_of k.1.0) (site_of k.1.1)))
             {x = (d, (z.0, w))} {y = (c, (x, u))}
             (λ i. (sym same.0 i, (sym same.1.0 i, sym same.1.1 i))) (stored d v w z.0 y z.2)
       ]

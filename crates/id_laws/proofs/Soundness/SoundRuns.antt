@@ -20,20 +20,26 @@ use Rattle.id_laws.proofs.Soundness.SoundAnswer.{sound_answer}
 use Rattle.id_laws.proofs.Soundness.SoundNames.{sound_names, names_differ}
 use Rattle.id_laws.proofs.Soundness.SoundFaults.{sound_faults}
 use Rattle.id_laws.proofs.Soundness.SoundValues.{sound_values}
-use Rattle.id_laws.proofs.Soundness.SoundCells.{sound_structures, structures_differ, sound_cells, cells_differ, sound_asks, asks_differ, sound_waiting, waiting_differ}
+use Rattle.id_laws.proofs.Soundness.SoundCells.{sound_structures, structures_differ, sound_cells, cells_differ}
+use Rattle.id_laws.proofs.Soundness.SoundCells.{sound_asks, asks_differ, sound_waiting, waiting_differ}
 
 -- in any run one event alone, or the start alone, sends for each key
-pub alone : (S : Source) → IsKnown S.checked → AreWhole S → (g : Parts) (number : ℕ → ℕ → ℕ) → Numbered S.checked g number → (count : ℕ)
-    → Exclusive g S.inputs count
+pub alone : (S : Source) → IsKnown S.checked → AreWhole S → (g : Parts) (number : ℕ → ℕ → ℕ)
+    → Numbered S.checked g number → (count : ℕ) → Exclusive g S.inputs count
 alone S known are g number numbered count =
     exclusive S g number numbered known count (λ s run r. all_tell S known g number numbered run count s r)
     (λ s run r. all_speak S known g number numbered run count s r) (λ p e i. wholes S are)
 
-module _ (S : Source) (known : IsKnown S.checked) (are : AreWhole S) (g : Parts) (number : ℕ → ℕ → ℕ) (numbered : Numbered S.checked g number)
+module _ (S : Source) (known : IsKnown S.checked) (are : AreWhole S) (g : Parts) (number : ℕ → ℕ
+    → ℕ) (numbered : Numbered S.checked g number)
     (count : ℕ) (s : World) (run : List Event) (r : Reach g S.inputs count s run) where
   -- a tag fires once in the run, and each number that a place Has is one of the language
   pub backed : IsBacked S run
-  backed = record { once = fired_once g S.inputs count (alone S known are g number numbered count) s run r; wholes = λ p e i. wholes S are }
+  backed = record {
+    once = fired_once g S.inputs count (alone S known are g number numbered count) s run r;
+    wholes =
+        λ p e i. wholes S are;
+  }
 
   -- what is shown is sound
   pub sound_at : IsSound S g number s
@@ -56,4 +62,5 @@ module _ (S : Source) (known : IsKnown S.checked) (are : AreWhole S) (g : Parts)
   -- no event is `Stuck`, each key has at most one message, and each path one context and iteration
   pub free_at : IsNeverStuck g s
   free_at =
-      never_stuck_at S g count (alone S known are g number numbered count) s run r (messages_apart S known g number numbered count s run r backed)
+      never_stuck_at S g count (alone S known are g number numbered count) s run r
+      (messages_apart S known g number numbered count s run r backed)

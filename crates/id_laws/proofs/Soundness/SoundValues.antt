@@ -3,7 +3,8 @@ use Rattle.std.proofs.Common.{◌≡◌, inr, ℕ, zero, suc, Bool as Truth, tru
 use Rattle.id_value.specs.List.{Among}
 use Rattle.id_value.proofs.AmongLemmas.{Among-map, Among-from_map}
 use Rattle.id_table.specs.declared.row.Node.{Node}
-use Rattle.id_table.specs.declared.row.Node.TheVariants.{Literal, Unary, Binary, If, Program, Call, Head, LoopHead, Turn, Next, Reset, Loop, Array, Fetch}
+use Rattle.id_table.specs.declared.row.Node.TheVariants.{Literal, Unary, Binary, If, Program, Call, Head, LoopHead}
+use Rattle.id_table.specs.declared.row.Node.TheVariants.{Turn, Next, Reset, Loop, Array, Fetch}
 use Rattle.id_table.specs.Tables.{begins_block, is_expression}
 use Rattle.id_check.specs.declared.checked.Checked.{Checked}
 use Rattle.id_check.specs.Programs.{place, region}
@@ -47,8 +48,10 @@ use Rattle.id_laws.proofs.Paths.Movers.{moved_by}
 use Rattle.id_laws.proofs.Rows.Sources.{is_mover}
 use Rattle.id_laws.proofs.Rows.Arcs.{sends_in, gives_back, varies, takes_in, moves_on, moves_name, advances, resets}
 use Rattle.id_laws.proofs.Rows.Arcs.{gets_last, allocates, addresses, fetches, gets_reply, stores, part_of}
-use Rattle.id_laws.proofs.Rows.Arcs.{Does, starts, returns, enters, constant, unary, binary, turns_on, hands, joins, names}
-use Rattle.id_laws.proofs.Rows.Arcs.{bounds_meet, begins_index, carries, meets_bound, goes_further, hands_index, has_one, adds_one}
+use Rattle.id_laws.proofs.Rows.Arcs.{Does, starts, returns, enters, constant, unary, binary, turns_on, hands, joins}
+use Rattle.id_laws.proofs.Rows.Arcs.{names}
+use Rattle.id_laws.proofs.Rows.Arcs.{bounds_meet, begins_index, carries, meets_bound, goes_further, hands_index}
+use Rattle.id_laws.proofs.Rows.Arcs.{has_one, adds_one}
 use Rattle.id_laws.proofs.Rows.Arcs.{answers, doing, place_shown, opens, passes, gets}
 use Rattle.id_laws.proofs.Rows.Tokens.{one_part, told_at}
 use Rattle.id_laws.proofs.Paths.Sendings.{is_fetch, is_store}
@@ -71,11 +74,12 @@ pub record Expresses (P : Checked) (n part : ℕ) : Type 0 where
   pub not_answer : node P n ≡ Program → ⊥
   pub gives : part ≡ giving_part (node P n)
 
-expresses : (P : Checked) (n part : ℕ) (o : Form) → Does P n part o → is_expression (node P n) ≡ true → part ≡ giving_part (node P n) → Expresses P n part
+expresses : (P : Checked) (n part : ℕ) (o : Form) → Does P n part o → is_expression (node P n) ≡ true
+    → part ≡ giving_part (node P n) → Expresses P n part
 expresses P n part o d e gives = go d gives
   where
-    by : (j : ℕ) (m : Node) → node P n ≡ m → ((b : Truth) → speaks_of P n (region P n) m j b ≡ ValueOf n) → place_shown P (place P n) m ≡ place P n
-        → j ≡ giving_part m
+    by : (j : ℕ) (m : Node) → node P n ≡ m → ((b : Truth) → speaks_of P n (region P n) m j b ≡ ValueOf n)
+        → place_shown P (place P n) m ≡ place P n → j ≡ giving_part m
         → Expresses P n j
     by j m is t p x = record {
       gives = x ∙ ap giving_part (sym is);
@@ -138,7 +142,8 @@ expresses P n part o d e gives = go d gives
     go (answers is) h = no is refl
 
 -- an expression is no `back`, no `send` and no `enter`
-no_back : (P : Checked) (number : ℕ → ℕ → ℕ) {n part : ℕ} {o : Form} {k : _} → Does P n part o → is_expression (node P n) ≡ true →
+no_back : (P : Checked) (number : ℕ → ℕ → ℕ) {n part : ℕ} {o : Form} {k : _} → Does P n part o
+    → is_expression (node P n) ≡ true →
     op_by number o ≡ op.Back k → ⊥
 no_back P number (starts is) e b = cc
 no_back P number (returns is) e b = let bad : true ≡ false = sym e ∙ ap is_expression is in cc
@@ -177,7 +182,8 @@ no_back P number (has_one is) e b = cc
 no_back P number (adds_one is) e b = cc
 no_back P number (answers is) e b = cc
 
-no_send : (P : Checked) (number : ℕ → ℕ → ℕ) {n part : ℕ} {o : Form} {k : _} {m : ℕ} → Does P n part o → is_expression (node P n) ≡ true →
+no_send : (P : Checked) (number : ℕ → ℕ → ℕ) {n part : ℕ} {o : Form} {k : _} {m : ℕ} → Does P n part o
+    → is_expression (node P n) ≡ true →
     op_by number o ≡ op.Send k m → ⊥
 no_send P number (starts is) e b = cc
 no_send P number (returns is) e b = cc
@@ -230,7 +236,8 @@ mover_no_expression (Next x k o v) h = refl
 mover_no_expression (Reset v) h = refl
 mover_no_expression _ h = absurd (true_false (sym h))
 
-module _ (S : Source) (known : IsKnown S.checked) (g : Parts) (number : ℕ → ℕ → ℕ) (numbered : Numbered S.checked g number) (count : ℕ) (s : World)
+module _ (S : Source) (known : IsKnown S.checked) (g : Parts) (number : ℕ → ℕ
+    → ℕ) (numbered : Numbered S.checked g number) (count : ℕ) (s : World)
     (run : List Event) (r : Reach g S.inputs count s run) (backed : IsBacked S run) where
   abbrev P : Checked
   P = S.checked
@@ -242,8 +249,8 @@ module _ (S : Source) (known : IsKnown S.checked) (g : Parts) (number : ℕ → 
   name_of = shown.structure_in g s.elements
 
   -- a message that brings what the expression has
-  brings : (n e : ℕ) (t : Tag) (v : Value) → Tells S number run (activation_of t) (ValueOf n) v → e ≡ place P n → (m : Message)
-      → value_in name_of m.payload ≡ shown.source_value name_of v → Carries S name_of (tag_path t) e m
+  brings : (n e : ℕ) (t : Tag) (v : Value) → Tells S number run (activation_of t) (ValueOf n) v → e ≡ place P n
+      → (m : Message) → value_in name_of m.payload ≡ shown.source_value name_of v → Carries S name_of (tag_path t) e m
   brings n e t v here place_is m says =
       let w = here.1 in
       let path_is = path_shown S known g number numbered count s run r backed t w.path here.0 w.path_of in
@@ -260,15 +267,17 @@ module _ (S : Source) (known : IsKnown S.checked) (g : Parts) (number : ℕ → 
       → Tells S number run (activation_of t) (topic_of P (record { row = row; part = part; side = b })) v → part ≡ k
       → (m : Message) (d : Dest) → m.payload ≡ token_to t v d → Carries S name_of (tag_path t) e m
   brought_by n e k t b v row part at x place_is told first m d says =
-      brings n e t v (subst (λ z. Tells S number run (activation_of t) z v) ((λ i. topic_of P (record { row = at i; part = first i; side = b })) ∙ x.topic b)
+      brings n e t v
+      (subst (λ z. Tells S number run (activation_of t) z v)
+      ((λ i. topic_of P (record { row = at i; part = first i; side = b })) ∙ x.topic b)
       told) place_is m (ap (value_in name_of) says)
 
   -- what an instruction of the expression sends
-  carried_by : (n e k : ℕ) (t : Tag) (f : Fired) (z : FiresAs run t f) (y : FiredPart P g number t f z.operands) → y.row ≡ n → Expresses P n k
-      → is_expression (node P n) ≡ true
+  carried_by : (n e k : ℕ) (t : Tag) (f : Fired) (z : FiresAs run t f) (y : FiredPart P g number t f z.operands)
+      → y.row ≡ n → Expresses P n k → is_expression (node P n) ≡ true
       → e ≡ place P n
-      → Means S number run (activation_of t) y.row y.part f → y.part ≡ k → (m : Message) → Among m.payload (sent_by g t f)
-      → Carries S name_of (tag_path t) e m
+      → Means S number run (activation_of t) y.row y.part f → y.part ≡ k → (m : Message)
+      → Among m.payload (sent_by g t f) → Carries S name_of (tag_path t) e m
   carried_by n e k t (Out v) z y row x expression place_is means part m out =
       let to = Among-from_map (token_to t v) m.payload (dests_at g t.instr true) out in
       brought_by n e k t true v y.row y.part row x place_is (means (λ z. x.not_answer (ap (node P) (sym row) ∙ z))
@@ -277,9 +286,11 @@ module _ (S : Source) (known : IsKnown S.checked) (g : Parts) (number : ℕ → 
       let to = Among-from_map (token_to t v) m.payload (dests_at g t.instr b) out in
       brought_by n e k t b v y.row y.part row x place_is means part m to.0 to.2
   carried_by n e k t (Entered c) z y row x expression place_is means part m out =
-      absurd (true_false (sym expression ∙ ap (λ z. is_expression (node P z)) (sym row) ∙ begins_no_expression means.begins))
+      absurd (true_false (sym expression ∙ ap (λ z. is_expression (node P z)) (sym row)
+      ∙ begins_no_expression means.begins))
   carried_by n e k t (Moved j v) z y row x expression place_is means part m out =
-      absurd (true_false (sym expression ∙ ap (λ z. is_expression (node P z)) (sym row) ∙ mover_no_expression (node P y.row)
+      absurd (true_false (sym expression ∙ ap (λ z. is_expression (node P z)) (sym row)
+      ∙ mover_no_expression (node P y.row)
       (moved_by P number y.does t z.operands y.fresh (sym y.is))))
   carried_by n e k t (Sent u v) z y row x expression place_is means part m out =
       elim (sent_back (op_by number y.form) t z.operands y.fresh u v (sym y.is)) [
@@ -298,13 +309,16 @@ module _ (S : Source) (known : IsKnown S.checked) (g : Parts) (number : ℕ → 
   carried_by n e k t (Failed j) z y row x expression place_is means part m out = absurd out
   carried_by n e k t Nothing z y row x expression place_is means part m out = absurd out
 
-  pub sound_values : (n : ℕ) (f : Form) (e : ℕ) (v : EventView) (m : Message) → Makes P n (giving_part (node P n)) f e → is_expression (node P n) ≡ true
-      → Among v (events s)
-      → (tag_of v.message.payload).instr ≡ number n (giving_part (node P n)) → Among m v.outputs → Carries S name_of (tag_path (tag_of v.message.payload)) e m
+  pub sound_values : (n : ℕ) (f : Form) (e : ℕ) (v : EventView) (m : Message) → Makes P n (giving_part (node P n)) f e
+      → is_expression (node P n) ≡ true → Among v (events s)
+      → (tag_of v.message.payload).instr ≡ number n (giving_part (node P n)) → Among m v.outputs
+      → Carries S name_of (tag_path (tag_of v.message.payload)) e m
   sound_values n f e v m makes expression among at out =
       let known_event = handled_event g S.inputs count s run r v among in
-      let sends = subst (Among m.payload) (known_event.2).outputs (Among-map (λ (y : Message). y.payload) m v.outputs out) in
-      by known_event.0 known_event.1 (ap tag_of (sym (known_event.2).payload)) sends (sent_from g run known_event.0 known_event.1 m.payload sends)
+      let sends =
+      subst (Among m.payload) (known_event.2).outputs (Among-map (λ (y : Message). y.payload) m v.outputs out) in
+      by known_event.0 known_event.1 (ap tag_of (sym (known_event.2).payload)) sends
+      (sent_from g run known_event.0 known_event.1 m.payload sends)
     where
       k : ℕ
       k = giving_part (node P n)
@@ -319,22 +333,24 @@ module _ (S : Source) (known : IsKnown S.checked) (g : Parts) (number : ℕ → 
       place_is = (doing makes).place_is ∙ x.shows
 
       -- the row at the tag of the event
-      row_is : {row part : ℕ} {a : Activation} {t : Tag} → IsPart P row part → t ≡ tag_in a (number row part) → t ≡ tag_of v.message.payload
-          → (row ≡ n) × (part ≡ k)
+      row_is : {row part : ℕ} {a : Activation} {t : Tag} → IsPart P row part → t ≡ tag_in a (number row part)
+          → t ≡ tag_of v.message.payload → (row ≡ n) × (part ≡ k)
       row_is is_part is same = one_part numbered is_part here (ap (λ (t : Tag). t.instr) (sym is ∙ same) ∙ at)
 
-      of_firing : (t : Tag) (h : Fired) (z : FiresAs run t h) → t ≡ tag_of v.message.payload → Among m.payload (sent_by g t h)
-          → Carries S name_of (tag_path (tag_of v.message.payload)) e m
+      of_firing : (t : Tag) (h : Fired) (z : FiresAs run t h) → t ≡ tag_of v.message.payload
+          → Among m.payload (sent_by g t h) → Carries S name_of (tag_path (tag_of v.message.payload)) e m
       of_firing t h z tag_is goes =
           let told = firing_tells S known g number numbered run (seats S known g number numbered run count s r)
-          (structures_apart g S.inputs count s run r) backed run r (λ x h. all_tell S known g number numbered run count s r backed x (inr h)) z in
+          (structures_apart g S.inputs count s run r) backed run r
+          (λ x h. all_tell S known g number numbered run count s r backed x (inr h)) z in
           let y = told.0 in
           let one = row_is y.is_part (sym y.at) tag_is in
-          subst (λ (t : Tag). Carries S name_of (tag_path t) e m) tag_is (carried_by n e k t h z y one.0 x expression place_is told.1 one.1 m goes)
+          subst (λ (t : Tag). Carries S name_of (tag_path t) e m) tag_is
+          (carried_by n e k t h z y one.0 x expression place_is told.1 one.1 m goes)
 
       -- the answer to a read is that of the fetch for which it was read
-      of_read : (c : Cell) (t : Tag) (w : Value) → ToldRead S number run c t → t ≡ tag_of v.message.payload → m.payload ≡ Token t Zero w
-          → Told S number run (Token t Zero w)
+      of_read : (c : Cell) (t : Tag) (w : Value) → ToldRead S number run c t → t ≡ tag_of v.message.payload
+          → m.payload ≡ Token t Zero w → Told S number run (Token t Zero w)
           → Carries S name_of (tag_path (tag_of v.message.payload)) e m
       of_read c t w fetch tag_is says told =
           let part = part_of fetch.within (gets_reply fetch.node) in
@@ -342,24 +358,31 @@ module _ (S : Source) (known : IsKnown S.checked) (g : Parts) (number : ℕ → 
           let tells = told_at S g number run numbered fetch.activation fetch.row 2 Zero w part
           (subst (λ u. Told S number run (Token u Zero w)) fetch.is told) in
           let value : Tells S number run fetch.activation (ValueOf fetch.row) w = subst
-          (λ q. Tells S number run fetch.activation (wants P fetch.row (region P fetch.row) q 2 Zero) w) fetch.node tells in
+          (λ q. Tells S number run fetch.activation (wants P fetch.row (region P fetch.row) q 2 Zero) w) fetch.node
+          tells in
           let acts : fetch.activation ≡ activation_of t = ap activation_of (sym fetch.is) in
           subst (λ (t : Tag). Carries S name_of (tag_path t) e m) tag_is
-          (brings n e t w (subst (λ (q : Activation × ℕ). Tells S number run q.0 (ValueOf q.1) w) (λ i. (acts i, one.0 i)) value) place_is m
+          (brings n e t w
+          (subst (λ (q : Activation × ℕ). Tells S number run q.0 (ValueOf q.1) w) (λ i. (acts i, one.0 i)) value)
+          place_is m
           (ap (value_in name_of) says))
 
-      told_on : (h : Event) → Among h run → Among m.payload (sends_of g h) → (t : Tag) (w : Value) → m.payload ≡ Token t Zero w
-          → Told S number run (Token t Zero w)
+      told_on : (h : Event) → Among h run → Among m.payload (sends_of g h) → (t : Tag) (w : Value)
+          → m.payload ≡ Token t Zero w → Told S number run (Token t Zero w)
       told_on h a goes t w says =
           subst (Told S number run) says (all_tell S known g number numbered run count s r backed m.payload
           (moving g S.inputs count s run r m.payload (inr (record { event = h; among = a; sends = goes }))))
 
-      by : (h : Event) → Among h run → tag_of (payload_of h) ≡ tag_of v.message.payload → Among m.payload (sends_of g h) → SentFrom g run h m.payload
-          → Carries S name_of (tag_path (tag_of v.message.payload)) e m
+      by : (h : Event) → Among h run → tag_of (payload_of h) ≡ tag_of v.message.payload → Among m.payload (sends_of g h)
+          → SentFrom g run h m.payload → Carries S name_of (tag_path (tag_of v.message.payload)) e m
       by h a tag_is goes (by_firing t f z is out) = of_firing t f z (ap (λ q. tag_of (payload_of q)) is ∙ tag_is) out
       by h a tag_is goes (by_answer t w says (at_once j c among)) =
-          of_read c t w (read_told S known g number numbered count s run r backed (record { element = j; among = among })) tag_is says (told_on h a goes t w says)
+          of_read c t w
+          (read_told S known g number numbered count s run r backed (record { element = j; among = among })) tag_is says
+          (told_on h a goes t w says)
       by h a tag_is goes (by_answer t w says (by_fill j c u ts among there)) =
-          let store = written_told S known g number numbered count s run r backed (record { element = j; among = among }) in
+          let store =
+          written_told S known g number numbered count s run r backed (record { element = j; among = among }) in
           let one = row_is (part_of store.within (stores store.node)) store.is tag_is in
-          absurd (true_false (sym expression ∙ ap (λ q. is_expression (node P q)) (sym one.0) ∙ ap is_expression store.node))
+          absurd (true_false (sym expression ∙ ap (λ q. is_expression (node P q)) (sym one.0)
+          ∙ ap is_expression store.node))

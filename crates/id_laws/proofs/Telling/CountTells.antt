@@ -1,6 +1,7 @@
 -- What the bounds of an index and what counts tell, where their operands tell what their ports want.
 use Rattle.std.proofs.Common.{inl}
-use Rattle.std.proofs.Common.{◌≡◌, ℕ, suc, ℤ, ◌+◌, ◌-◌, ◌<◌, Bool as Truth, true, false, cond, List, length, unwrap_or, refl, sym, ◌∙◌, ap, subst, arith}
+use Rattle.std.proofs.Common.{◌≡◌, ℕ, suc, ℤ, ◌+◌, ◌-◌, ◌<◌, Bool as Truth, true, false, cond, List, length, unwrap_or}
+use Rattle.std.proofs.Common.{refl, sym, ◌∙◌, ap, subst, arith}
 use Rattle.std.specs.Prelude.{int_le, int_lt, pos, ◌+ℤ◌}
 use Rattle.id_value.specs.Results.{is_whole}
 use Rattle.id_value.specs.declared.Arithmetic.TheVariants.{Add}
@@ -40,14 +41,17 @@ use Rattle.id_runs.specs.Events.{Event, FiresOnce}
 use Rattle.id_runs.proofs.Givings.{gives_once}
 use Rattle.id_laws.specs.Activations as activations
 use Rattle.id_laws.specs.Activations.{Goes, Live, Speaks, PathOf, count_row, switches_of}
-use Rattle.id_laws.specs.Topics.{Topic, AndOne, BoundIn, Counts, GoesFurther, LastIndex, SaidFirst, SaidIndex, SaidNext, SaidOf}
-use Rattle.id_laws.specs.Topics.{Shown, ShownNextFlag, StandsFor, number_stands, truth_stands, name_stands, Tells, Turned, ValueOf, speaks_of}
+use Rattle.id_laws.specs.Topics.{Topic, AndOne, BoundIn, Counts, GoesFurther, LastIndex, SaidFirst, SaidIndex, SaidNext}
+use Rattle.id_laws.specs.Topics.{SaidOf}
+use Rattle.id_laws.specs.Topics.{Shown, ShownNextFlag, StandsFor, number_stands, truth_stands, name_stands, Tells}
+use Rattle.id_laws.specs.Topics.{Turned, ValueOf, speaks_of}
 use Rattle.id_laws.specs.Topics.{ShownSide, behind, index_place, upper_place}
 use Rattle.id_laws.proofs.Rows.Assumed.{IsKnown}
 use Rattle.id_laws.proofs.Paths.Counted.{index_block, switches_block}
 use Rattle.id_laws.proofs.Telling.FiringMeans.{Means}
 use Rattle.id_laws.proofs.Paths.Iterations.{without_below}
-use Rattle.id_laws.proofs.Rows.Loops.{IsCounted, LoopOf, bounds_node, bounds_region, count_region, counted_of, for_at, for_stands, has_three, head_block, head_place}
+use Rattle.id_laws.proofs.Rows.Loops.{IsCounted, LoopOf, bounds_node, bounds_region, count_region, counted_of, for_at}
+use Rattle.id_laws.proofs.Rows.Loops.{for_stands, has_three, head_block, head_place}
 use Rattle.id_laws.proofs.Rows.Loops.{loop_by, start_region, switches_same}
 use Rattle.id_laws.proofs.Paths.Opened.{InLoop, LoopPath, live_loop, loop_path, next_path}
 use Rattle.id_laws.proofs.Rows.Regions.{no_depth, same_depth}
@@ -61,22 +65,31 @@ one_truth b c e = cc
 one_number : (i j : ℤ) → value.Int i ≡ value.Int j → i ≡ j
 one_number i j e = cc
 
--- what says whether the loop with the head h goes on in the next iteration is of the truth value by which its switches go there
-pub next_side : (S : Source) (number : ℕ → ℕ → ℕ) (run : List Event) (known : IsKnown S.checked) → OneSeat S number run → (a : Activation) (h : ℕ)
+-- what says whether the loop with the head h goes on in the next iteration is of the truth value by which its switches
+-- go there
+pub next_side : (S : Source) (number : ℕ → ℕ → ℕ) (run : List Event) (known : IsKnown S.checked) → OneSeat S number run
+    → (a : Activation) (h : ℕ)
     (l : LoopOf S.checked h) → IsCounted S.checked l.all → (v : Value) → ShownNextFlag S number run a h v
     → ShownSide S number run (behind S number run a) (switches_of S.checked h) v
 next_side S number run known seats a h l c v flag =
     let P = S.checked in
     let same = switches_same P known h l in
     let b : block P (switches_of P h) ≡ h = ap (block P) same ∙ switches_block P known h l c in
-    let inner = subst (InLoop S known number run a) b (live_loop S known number run flag.live (ap (node P) b ∙ l.head)) in
+    let inner =
+    subst (InLoop S known number run a) b (live_loop S known number run flag.live (ap (node P) b ∙ l.head)) in
     let path = loop_path S known number run seats l inner flag.path_of in
-    let outer : flag.outer ≡ path.path = (below_is flag.outer path.path (place P h) (place P (end_of P h)) a.iteration a.iteration path.is).0 in
+    let outer : flag.outer ≡ path.path =
+    (below_is flag.outer path.path (place P h) (place P (end_of P h)) a.iteration a.iteration path.is).0 in
     let head = head_place P known h l in
-    let upper : unwrap_or (upper_at (rows P) h) 0 ≡ (c.bounds).upper = ap (λ m. unwrap_or (upper_of m) 0) (bounds_node P known h l c) in
-    let high = subst (λ (z : Path × ℕ). Holds S (Has z.0 (place P z.1) (source.Int flag.high))) {x = (flag.outer, unwrap_or (upper_at (rows P) h) 0)}
+    let upper : unwrap_or (upper_at (rows P) h) 0 ≡ (c.bounds).upper =
+    ap (λ m. unwrap_or (upper_of m) 0) (bounds_node P known h l c) in
+    let high =
+    subst (λ (z : Path × ℕ). Holds S (Has z.0 (place P z.1) (source.Int flag.high))) {x =
+    (flag.outer, unwrap_or (upper_at (rows P) h) 0)}
     {y = (path.path, (c.bounds).upper)} (λ i. (outer i, upper i)) flag.high_has in
-    let index = subst (λ (z : (Path × ℕ) × ℕ). Holds S (Has (below z.0.0 z.0.1 a.iteration) (place P (index_row z.1)) (source.Int flag.index)))
+    let index =
+    subst (λ (z : (Path × ℕ)
+    × ℕ). Holds S (Has (below z.0.0 z.0.1 a.iteration) (place P (index_row z.1)) (source.Int flag.index)))
     {x = ((flag.outer, place P h), switches_of P h)} {y = ((path.path, place P (end_of P h)), (l.the).switches)}
     (λ i. ((outer i, head i), same i)) flag.index_has in
     let p = below path.path (place P (end_of P h)) (suc a.iteration) in
@@ -85,10 +98,16 @@ next_side S number run known seats a h l c v flag =
     record {
       path = p;
       path_of = next_path S known number run l inner path (suc a.iteration);
-      goes = record { side = int_lt flag.index flag.high; is = flag.is; goes = subst (λ w. Goes S p w (int_lt flag.index flag.high)) (sym same) side };
+      goes = record {
+        side = int_lt flag.index flag.high;
+        is = flag.is;
+        goes =
+            subst (λ w. Goes S p w (int_lt flag.index flag.high)) (sym same) side;
+      };
     }
 
-module _ (S : Source) (known : IsKnown S.checked) (number : ℕ → ℕ → ℕ) (run : List Event) (seats : OneSeat S number run) (once : FiresOnce run)
+module _ (S : Source) (known : IsKnown S.checked) (number : ℕ → ℕ
+    → ℕ) (run : List Event) (seats : OneSeat S number run) (once : FiresOnce run)
     (a : Activation) (n : ℕ) (within : n < length (rows S.checked)) where
   abbrev P : Checked
   P = S.checked
@@ -100,7 +119,8 @@ module _ (S : Source) (known : IsKnown S.checked) (number : ℕ → ℕ → ℕ)
   T t v = Tells S number run a t v
 
   -- a switch goes by a truth value alone
-  by_truth : (k : PortKind) (v w : Value) (part : ℕ) → ((b : Truth) → v ≡ value.Bool b → M part (Side b w)) → M part (fired_switch k (operands.Two v w))
+  by_truth : (k : PortKind) (v w : Value) (part : ℕ) → ((b : Truth) → v ≡ value.Bool b → M part (Side b w))
+      → M part (fired_switch k (operands.Two v w))
   by_truth k (value.Bool b) w part means = side (same_kind (kind_of w) k) (means b refl)
     where
       side : (c : Truth) → M part (Side b w) → M part (cond c (Side b w) Nothing)
@@ -146,14 +166,16 @@ module _ (S : Source) (known : IsKnown S.checked) (number : ℕ → ℕ → ℕ)
       low = subst (λ p. Holds S (Has p (place P e) x.1.value)) (without_none x.1.path) x.1.holds
 
       high : Holds S (Has x.1.path (place P f) (y.1).value)
-      high = subst (λ p. Holds S (Has p (place P f) (y.1).value)) (without_none (y.1).path ∙ one_path seats (y.1).path_of x.1.path_of) (y.1).holds
+      high = subst (λ p. Holds S (Has p (place P f) (y.1).value)) (without_none (y.1).path
+          ∙ one_path seats (y.1).path_of x.1.path_of) (y.1).holds
 
       live : Live S number run a (region P ((n + 2) - 1))
       live = subst (Live S number run a)
           (((known.table).part_stands n e within (subst (λ m. HasNear m e) (sym is) (inl refl))).1 ∙ sym z.region) x.0
 
-      by : {v w : Value} {s t : SourceValue} → StandsFor S number run v s → StandsFor S number run w t → Holds S (Has x.1.path (place P e) s)
-          → Holds S (Has x.1.path (place P f) t) → Speaks S number run a (origin P e) v → M 0 (fired_binary (dyadic.Comparison Le) (operands.Two v w))
+      by : {v w : Value} {s t : SourceValue} → StandsFor S number run v s → StandsFor S number run w t
+          → Holds S (Has x.1.path (place P e) s) → Holds S (Has x.1.path (place P f) t)
+          → Speaks S number run a (origin P e) v → M 0 (fired_binary (dyadic.Comparison Le) (operands.Two v w))
       by (number_stands lo) (number_stands hi) low high said = λ other fires.
           subst (λ m. T (speaks_of P n (region P n) m 0 true) (value.Bool (int_le lo hi))) (sym is) (
             live,
@@ -195,16 +217,19 @@ module _ (S : Source) (known : IsKnown S.checked) (number : ℕ → ℕ → ℕ)
           let both : Bounds flag.lower flag.upper ≡ Bounds e f = sym flag.bounds ∙ z.node in
           let e_is : flag.lower ≡ e = cc in
           let f_is : flag.upper ≡ f = cc in
-          let w_is : w ≡ value.Int flag.low = one_said y.2 (subst (λ i. Speaks S number run a (origin P i) (value.Int flag.low)) e_is flag.said) in
+          let w_is : w ≡ value.Int flag.low =
+          one_said y.2 (subst (λ i. Speaks S number run a (origin P i) (value.Int flag.low)) e_is flag.said) in
           let goes : int_le flag.low flag.high ≡ true = one_truth _ _ (sym flag.is ∙ v_is) in
           let stands = for_at known (l.the).within (l.the).node z.node in
           let p = flag.path in
           let low = subst (λ i. Holds S (Has p (place P i) (source.Int flag.low))) e_is flag.low_has in
           let high = subst (λ i. Holds S (Has p (place P i) (source.Int flag.high))) f_is flag.high_has in
           let live = subst (Live S number run a) (start_region P known h l) x.0 in
-          let on = turned_on S known seats live flag.path_of ((known.table).turned (end_of P h) (l.the).within (ap is_expression (l.the).node)) in
+          let on = turned_on S known seats live flag.path_of
+          ((known.table).turned (end_of P h) (l.the).within (ap is_expression (l.the).node)) in
           let has = holds_by S _ _ (index_begins stands goes) (on, (low, (high, tt))) in
-          let side : Goes S (below p (place P (end_of P h)) 0) (l.the).switches true = activations.by_index (by_bounds stands goes) (on, (low, (high, tt))) in
+          let side : Goes S (below p (place P (end_of P h)) 0) (l.the).switches true =
+          activations.by_index (by_bounds stands goes) (on, (low, (high, tt))) in
           let here = head_place P known h l in
           let same = switches_same P known h l in
           subst (λ m. T (speaks_of P n (region P n) m 1 true) w) (sym is) (
@@ -215,10 +240,13 @@ module _ (S : Source) (known : IsKnown S.checked) (number : ℕ → ℕ → ℕ)
               first = flag.low;
               is = w_is;
               decided = subst (Speaks S number run a (output (bounds_row h))) v_is x.2;
-              holds = subst (λ (q : ℕ × ℕ). Holds S (Has (below p q.0 0) (place P (index_row q.1)) (source.Int flag.low)))
-                  {x = (place P (end_of P h), (l.the).switches)} {y = (place P h, switches_of P h)} (λ i. (sym here i, sym same i)) has;
+              holds = subst
+                  (λ (q : ℕ × ℕ). Holds S (Has (below p q.0 0) (place P (index_row q.1)) (source.Int flag.low)))
+                  {x = (place P (end_of P h), (l.the).switches)} {y =
+                  (place P h, switches_of P h)} (λ i. (sym here i, sym same i)) has;
               goes = subst (λ (q : ℕ × ℕ). Goes S (below p q.0 0) q.1 true)
-                  {x = (place P (end_of P h), (l.the).switches)} {y = (place P h, switches_of P h)} (λ i. (sym here i, sym same i)) side;
+                  {x = (place P (end_of P h), (l.the).switches)} {y =
+                  (place P h, switches_of P h)} (λ i. (sym here i, sym same i)) side;
             },
           )
 
@@ -241,7 +269,8 @@ module _ (S : Source) (known : IsKnown S.checked) (number : ℕ → ℕ → ℕ)
         subst (InLoop S known number run a) b (live_loop S known number run live (ap (node P) b ∙ l.head))
 
     -- what compares the index with the upper bound
-    pub count_tell : (v w : Value) → T (SaidIndex h) v → T (BoundIn (region P n) h) w → M 0 (fired_binary (dyadic.Comparison Lt) (operands.Two v w))
+    pub count_tell : (v w : Value) → T (SaidIndex h) v → T (BoundIn (region P n) h) w
+        → M 0 (fired_binary (dyadic.Comparison Lt) (operands.Two v w))
     count_tell v w x y = by x.1.stands (y.1).stands index high x.2
       where
         path : LoopPath S known number run a h (inner x.0) x.1.path
@@ -251,7 +280,8 @@ module _ (S : Source) (known : IsKnown S.checked) (number : ℕ → ℕ → ℕ)
         p_is = path.is ∙ ap (λ e. below path.path e a.iteration) (sym (head_place P known h l))
 
         index : Holds S (Has (below path.path (place P h) a.iteration) (index_place S number run h) x.1.value)
-        index = subst (λ p. Holds S (Has p (index_place S number run h) x.1.value)) (without_none x.1.path ∙ p_is) x.1.holds
+        index = subst (λ p. Holds S (Has p (index_place S number run h) x.1.value)) (without_none x.1.path
+            ∙ p_is) x.1.holds
 
         depth : loops_between (rows P) (region P n).head (h - 1) ≡ 1
         depth =
@@ -264,7 +294,8 @@ module _ (S : Source) (known : IsKnown S.checked) (number : ℕ → ℕ → ℕ)
 
         high : Holds S (Has path.path (upper_place S number run h) (y.1).value)
         high = subst (λ p. Holds S (Has p (upper_place S number run h) (y.1).value))
-            ((λ i. without (depth i) (q_is i)) ∙ without_below 0 path.path (place P h) a.iteration ∙ without_none path.path) (y.1).holds
+            ((λ i. without (depth i) (q_is i)) ∙ without_below 0 path.path (place P h) a.iteration
+            ∙ without_none path.path) (y.1).holds
 
         by : {v w : Value} {s t : SourceValue} → StandsFor S number run v s → StandsFor S number run w t
             → Holds S (Has (below path.path (place P h) a.iteration) (index_place S number run h) s)
@@ -295,25 +326,34 @@ module _ (S : Source) (known : IsKnown S.checked) (number : ℕ → ℕ → ℕ)
       path_of : PathOf S number run (behind S number run a) (below outer (place P (end_of P h)) (suc a.iteration))
       said : Speaks S number run a (output (h + 1)) (value.Int index)
       high_has : Holds S (Has outer (place P (c.bounds).upper) (source.Int high))
-      index_has : Holds S (Has (below outer (place P (end_of P h)) a.iteration) (place P (index_row (l.the).switches)) (source.Int index))
+      index_has : Holds S
+          (Has (below outer (place P (end_of P h)) a.iteration) (place P (index_row (l.the).switches))
+          (source.Int index))
       goes : int_lt index high ≡ true
 
     further : {v : Value} → ShownNextFlag S number run a h v → v ≡ value.Bool true → Further v
     further flag v_is =
         let path = loop_path S known number run seats l (inner flag.live) flag.path_of in
-        let outer : flag.outer ≡ path.path = (below_is flag.outer path.path (place P h) (place P (end_of P h)) a.iteration a.iteration path.is).0 in
+        let outer : flag.outer ≡ path.path =
+        (below_is flag.outer path.path (place P h) (place P (end_of P h)) a.iteration a.iteration path.is).0 in
         let head = head_place P known h l in
-        let upper : unwrap_or (upper_at (rows P) h) 0 ≡ (c.bounds).upper = ap (λ m. unwrap_or (upper_of m) 0) (bounds_node P known h l c) in
+        let upper : unwrap_or (upper_at (rows P) h) 0 ≡ (c.bounds).upper =
+        ap (λ m. unwrap_or (upper_of m) 0) (bounds_node P known h l c) in
         record {
           outer = path.path;
           index = flag.index;
           high = flag.high;
           path_of = next_path S known number run l (inner flag.live) path (suc a.iteration);
           said = flag.said;
-          high_has = subst (λ (z : Path × ℕ). Holds S (Has z.0 (place P z.1) (source.Int flag.high))) {x = (flag.outer, unwrap_or (upper_at (rows P) h) 0)}
+          high_has =
+              subst (λ (z : Path × ℕ). Holds S (Has z.0 (place P z.1) (source.Int flag.high))) {x =
+              (flag.outer, unwrap_or (upper_at (rows P) h) 0)}
               {y = (path.path, (c.bounds).upper)} (λ i. (outer i, upper i)) flag.high_has;
-          index_has = subst (λ (z : (Path × ℕ) × ℕ). Holds S (Has (below z.0.0 z.0.1 a.iteration) (place P (index_row z.1)) (source.Int flag.index)))
-              {x = ((flag.outer, place P h), switches_of P h)} {y = ((path.path, place P (end_of P h)), (l.the).switches)}
+          index_has =
+              subst (λ (z : (Path × ℕ)
+              × ℕ). Holds S (Has (below z.0.0 z.0.1 a.iteration) (place P (index_row z.1)) (source.Int flag.index)))
+              {x = ((flag.outer, place P h), switches_of P h)} {y =
+              ((path.path, place P (end_of P h)), (l.the).switches)}
               (λ i. ((outer i, head i), same i)) flag.index_has;
           goes = one_truth _ _ (sym flag.is ∙ v_is);
         }
@@ -333,27 +373,34 @@ module _ (S : Source) (known : IsKnown S.checked) (number : ℕ → ℕ → ℕ)
             goes = record {
               side = true;
               is = refl;
-              goes = subst (λ w. Goes S (below z.outer (place P (end_of P h)) (suc a.iteration)) w true) (sym same) side;
+              goes = subst (λ w. Goes S (below z.outer (place P (end_of P h)) (suc a.iteration)) w true) (sym same)
+                  side;
             };
           };
         }
 
-    pub further_tell : (v w : Value) → T (SaidNext h) v → T (Turned (region P n)) w → M 1 (fired_switch SignalKind (operands.Two v w))
+    pub further_tell : (v w : Value) → T (SaidNext h) v → T (Turned (region P n)) w
+        → M 1 (fired_switch SignalKind (operands.Two v w))
     further_tell v w x y = by_truth SignalKind v w 1 by
       where
         by : (b : Truth) → v ≡ value.Bool b → M 1 (Side b w)
         by true v_is = subst (λ m. T (speaks_of P n (region P n) m 1 true) w) (sym is) (y.0, counts x v_is)
-        by false v_is = subst (λ m. T (speaks_of P n (region P n) m 1 false) w) (sym is) (y.0, subst (Live S number run a) here y.1)
+        by false v_is =
+            subst (λ m. T (speaks_of P n (region P n) m 1 false) w) (sym is) (y.0, subst (Live S number run a) here y.1)
 
     -- what hands the index on, of which one more is a number of the language, since an upper bound is
-    pub last_tell : ((p : Path) (e : ℕ) (i : ℤ) → Holds S (Has p e (source.Int i)) → is_whole i ≡ true) → (v w : Value) → T (SaidNext h) v → T (SaidIndex h) w
-        → M 2 (fired_switch IntKind (operands.Two v w))
+    pub last_tell : ((p : Path) (e : ℕ) (i : ℤ) → Holds S (Has p e (source.Int i)) → is_whole i ≡ true) → (v w : Value)
+        → T (SaidNext h) v → T (SaidIndex h) w → M 2 (fired_switch IntKind (operands.Two v w))
     last_tell wholes v w x y = by_truth IntKind v w 2 by
       where
         by : (b : Truth) → v ≡ value.Bool b → M 2 (Side b w)
         by true v_is =
             let z = further x.0 v_is in
-            let next = holds_by S _ _ (index_counts z.outer a.iteration (for_stands P known h l c) z.goes) (z.index_has, (z.high_has, tt)) in
+            let next =
+            holds_by S _ _ (index_counts z.outer a.iteration (for_stands P known h l c) z.goes) (
+              z.index_has,
+              (z.high_has, tt),
+            ) in
             let p = below z.outer (place P (end_of P h)) (suc a.iteration) in
             subst (λ m. T (speaks_of P n (region P n) m 2 true) w) (sym is) (record {
               counts = counts x v_is;
@@ -365,24 +412,32 @@ module _ (S : Source) (known : IsKnown S.checked) (number : ℕ → ℕ → ℕ)
                 path_of = z.path_of;
                 value = source.Int (z.index +ℤ pos 1);
                 stands = number_stands (z.index +ℤ pos 1);
-                holds = subst (λ (q : Path × ℕ). Holds S (Has q.0 (place P (index_row q.1)) (source.Int (z.index +ℤ pos 1)))) {x = (p, (l.the).switches)}
+                holds = subst
+                    (λ (q : Path × ℕ). Holds S (Has q.0 (place P (index_row q.1)) (source.Int (z.index +ℤ pos 1)))) {x =
+                    (p, (l.the).switches)}
                     {y = (without 0 p, switches_of P h)} (λ i. (sym (without_none p) i, sym same i)) next;
               };
             })
         by false v_is =
             let x_row = index_row (switches_of P h) in
-            let depth : loops_between (rows P) (switches_of P h) x_row ≡ 0 = no_depth P (switches_of P h) x_row (ap (block P) same ∙ switches_block P known h l c
+            let depth : loops_between (rows P) (switches_of P h) x_row ≡ 0 =
+            no_depth P (switches_of P h) x_row (ap (block P) same ∙ switches_block P known h l c
             ∙ sym (ap (λ u. block P (index_row u)) same ∙ index_block P known h l c)) in
-            subst (λ m. T (speaks_of P n (region P n) m 2 false) w) (sym is) (y.0, subst (λ d. Shown S number run a d (place P x_row) w) (sym depth) y.1)
+            subst (λ m. T (speaks_of P n (region P n) m 2 false) w) (sym is) (
+              y.0,
+              subst (λ d. Shown S number run a d (place P x_row) w) (sym depth) y.1,
+            )
 
     pub one_tell : (v : Value) → T (GoesFurther h) v → M 3 (fired_const (constants.Int (pos 1)) (operands.One v))
     one_tell v x = subst (λ z. M 3 (fired_const (constants.Int (pos 1)) (operands.One z))) (sym x.0)
         (λ other fires. subst (λ m. T (speaks_of P n (region P n) m 3 true) (value.Int (pos 1))) (sym is) (refl, x.1))
 
-    pub add_tell : (v w : Value) → T (LastIndex h) v → T (AndOne h) w → M 4 (fired_binary (dyadic.Arithmetic Add) (operands.Two v w))
+    pub add_tell : (v w : Value) → T (LastIndex h) v → T (AndOne h) w
+        → M 4 (fired_binary (dyadic.Arithmetic Add) (operands.Two v w))
     add_tell v w x y =
         let gives : fired_binary (dyadic.Arithmetic Add) (operands.Two v w) ≡ Out (value.Int (x.index +ℤ pos 1)) =
         (λ i. fired_binary (dyadic.Arithmetic Add) (operands.Two (x.is i) (y.0 i)))
         ∙ ap (λ t. fired_by (cond t (Gives (constants.Int (x.index +ℤ pos 1))) (Fails Overflow))) x.whole in
         subst (M 4) (sym gives)
-        (λ other fires. subst (λ m. T (speaks_of P n (region P n) m 4 true) (value.Int (x.index +ℤ pos 1))) (sym is) (x.counts, x.next))
+        (λ other fires. subst (λ m. T (speaks_of P n (region P n) m 4 true) (value.Int (x.index +ℤ pos 1))) (sym is)
+        (x.counts, x.next))

@@ -31,7 +31,8 @@ use Rattle.id_runs.specs.Activations.{Activation, at_iteration, tag_in}
 use Rattle.id_runs.specs.Events.{Event, FiresAs, FiresOnce}
 use Rattle.id_laws.specs.Activations.{Begins, Opens, PathOf, Live, ReturnsTo}
 use Rattle.id_laws.specs.Topics.{sent_to}
-use Rattle.id_laws.specs.Topics.{ValueOf, StandsFor, number_stands, truth_stands, ShownResult, Tells, name_stands, ToldRead, ToldWrite}
+use Rattle.id_laws.specs.Topics.{ValueOf, StandsFor, number_stands, truth_stands, ShownResult, Tells, name_stands}
+use Rattle.id_laws.specs.Topics.{ToldRead, ToldWrite}
 use Rattle.id_laws.specs.Topics.{topic_of, topic_at}
 use Rattle.id_laws.proofs.Rows.Arcs.{place_shown}
 
@@ -42,19 +43,20 @@ pub record IsConstant (v : Value) (w : SourceValue) : Type 0 where
   pub value : w ≡ value_of constant_is
 
 -- a value that stands for one of the source is a constant, or a structure
-pub stands_constant : {S : Source} {number : ℕ → ℕ → ℕ} {run : List Event} {v : Value} {w : SourceValue} → StandsFor S number run v w
-    → IsConstant v w ⊎ ((s : Structure) × (v ≡ value.Structure s))
+pub stands_constant : {S : Source} {number : ℕ → ℕ → ℕ} {run : List Event} {v : Value} {w : SourceValue}
+    → StandsFor S number run v w → IsConstant v w ⊎ ((s : Structure) × (v ≡ value.Structure s))
 stands_constant (number_stands n) = inl (record { constant_is = constants.Int n; token = refl; value = refl })
 stands_constant (truth_stands b) = inl (record { constant_is = constants.Bool b; token = refl; value = refl })
 stands_constant (name_stands s x named) = inr (s, refl)
 
-pub constant_stands : (S : Source) (number : ℕ → ℕ → ℕ) (run : List Event) (c : Constant) → StandsFor S number run (constant_value c) (value_of c)
+pub constant_stands : (S : Source) (number : ℕ → ℕ → ℕ) (run : List Event) (c : Constant)
+    → StandsFor S number run (constant_value c) (value_of c)
 constant_stands S number run (constants.Int n) = number_stands n
 constant_stands S number run (constants.Bool b) = truth_stands b
 
 -- a truth value stands for that one
-pub stands_truth : {S : Source} {number : ℕ → ℕ → ℕ} {run : List Event} {v : Value} {w : SourceValue} {b : Truth} → StandsFor S number run v w
-    → v ≡ value.Bool b
+pub stands_truth : {S : Source} {number : ℕ → ℕ → ℕ} {run : List Event} {v : Value} {w : SourceValue} {b : Truth}
+    → StandsFor S number run v w → v ≡ value.Bool b
     → w ≡ source.Bool b
 stands_truth {b = b} (number_stands n) e = cc
 stands_truth {b = b} (name_stands s x named) e = cc
@@ -122,7 +124,9 @@ module _ (S : Source) (number : ℕ → ℕ → ℕ) (run : List Event) where
       (node S.checked n ≡ Program → ⊥) → FiresAs run (tag_in a (number n part)) (Out v) → Tells S number run a
       (topic_of S.checked (record { row = n; part = part; side = true })) v
   Means a n part (Side b v) = Tells S number run a (topic_of S.checked (record { row = n; part = part; side = b })) v
-  Means a n part (Moved k v) = Tells S number run (at_iteration a.context k) (topic_of S.checked (record { row = n; part = part; side = true })) v
+  Means a n part (Moved k v) =
+      Tells S number run (at_iteration a.context k) (topic_of S.checked (record { row = n; part = part; side = true }))
+      v
   Means a n part (Entered c) = Entering a n part
   Means a n part (Sent u v) = Returned a n u v ⊎ (Passed a n u v ⊎ Given a n u v)
   Means a n part (Asked c u) = ToldRead S number run c u
@@ -132,6 +136,7 @@ module _ (S : Source) (number : ℕ → ℕ → ℕ) (run : List Event) where
 
   -- the operands tell what their ports want
   pub data OperandsTell (a : Activation) (n part : ℕ) (ops : Operands) : Type 0 where
-    one : (p : Port) (v : Value) → ops ≡ operands.One v → Tells S number run a (topic_at S.checked n part p) v → OperandsTell a n part ops
+    one : (p : Port) (v : Value) → ops ≡ operands.One v → Tells S number run a (topic_at S.checked n part p) v
+        → OperandsTell a n part ops
     two : (v w : Value) → ops ≡ operands.Two v w → Tells S number run a (topic_at S.checked n part Zero) v
         → Tells S number run a (topic_at S.checked n part One) w → OperandsTell a n part ops

@@ -56,7 +56,8 @@ right_nothing (dyadic.Truth o) (value.Bool b) s = refl
 right_nothing (dyadic.Truth o) _ s = refl
 
 compared : (o : Comparison) (c d : Constant)
-    → Agrees (fired_binary (dyadic.Comparison o) (Two (constant_value c) (constant_value d))) (result_of_binary (class.Comparison o) c d)
+    → Agrees (fired_binary (dyadic.Comparison o) (Two (constant_value c) (constant_value d)))
+    (result_of_binary (class.Comparison o) c d)
 compared compares.Lt (constant.Int a) (constant.Int b) = inr refl
 compared compares.Lt (constant.Int a) (constant.Bool b) = inl refl
 compared compares.Lt (constant.Bool a) (constant.Int b) = inl refl
@@ -83,28 +84,32 @@ compared compares.Ne (constant.Bool a) (constant.Int b) = inl refl
 compared compares.Ne (constant.Bool a) (constant.Bool b) = inl refl
 
 equal : (c d : Constant)
-    → Agrees (fired_binary (dyadic.Truth truth.Eqb) (Two (constant_value c) (constant_value d))) (result_of_binary (class.Comparison compares.Eq) c d)
+    → Agrees (fired_binary (dyadic.Truth truth.Eqb) (Two (constant_value c) (constant_value d)))
+    (result_of_binary (class.Comparison compares.Eq) c d)
 equal (constant.Int a) (constant.Int b) = inl refl
 equal (constant.Int a) (constant.Bool b) = inl refl
 equal (constant.Bool a) (constant.Int b) = inl refl
 equal (constant.Bool a) (constant.Bool b) = inr refl
 
 differ : (c d : Constant)
-    → Agrees (fired_binary (dyadic.Truth truth.Neb) (Two (constant_value c) (constant_value d))) (result_of_binary (class.Comparison compares.Ne) c d)
+    → Agrees (fired_binary (dyadic.Truth truth.Neb) (Two (constant_value c) (constant_value d)))
+    (result_of_binary (class.Comparison compares.Ne) c d)
 differ (constant.Int a) (constant.Int b) = inl refl
 differ (constant.Int a) (constant.Bool b) = inl refl
 differ (constant.Bool a) (constant.Int b) = inl refl
 differ (constant.Bool a) (constant.Bool b) = inr refl
 
 both : (c d : Constant)
-    → Agrees (fired_binary (dyadic.Truth truth.And) (Two (constant_value c) (constant_value d))) (result_of_binary (class.Logic logic.And) c d)
+    → Agrees (fired_binary (dyadic.Truth truth.And) (Two (constant_value c) (constant_value d)))
+    (result_of_binary (class.Logic logic.And) c d)
 both (constant.Int a) (constant.Int b) = inl refl
 both (constant.Int a) (constant.Bool b) = inl refl
 both (constant.Bool a) (constant.Int b) = inl refl
 both (constant.Bool a) (constant.Bool b) = inr refl
 
 either : (c d : Constant)
-    → Agrees (fired_binary (dyadic.Truth truth.Or) (Two (constant_value c) (constant_value d))) (result_of_binary (class.Logic logic.Or) c d)
+    → Agrees (fired_binary (dyadic.Truth truth.Or) (Two (constant_value c) (constant_value d)))
+    (result_of_binary (class.Logic logic.Or) c d)
 either (constant.Int a) (constant.Int b) = inl refl
 either (constant.Int a) (constant.Bool b) = inl refl
 either (constant.Bool a) (constant.Int b) = inl refl

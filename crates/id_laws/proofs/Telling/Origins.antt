@@ -1,5 +1,6 @@
 -- What comes from where an expression has its value tells the expression's value.
-use Rattle.std.proofs.Common.{◌≡◌, Bool as Truth, ℕ, zero, suc, ◌<◌, ◌+◌, ◌-◌, true, false, cond, Some, List, length, get_or, refl, sym, ◌∙◌, ap, subst, arith}
+use Rattle.std.proofs.Common.{◌≡◌, Bool as Truth, ℕ, zero, suc, ◌<◌, ◌+◌, ◌-◌, true, false, cond, Some, List, length}
+use Rattle.std.proofs.Common.{get_or, refl, sym, ◌∙◌, ap, subst, arith}
 use Rattle.id_table.specs.declared.row.Region.{Region}
 use Rattle.id_table.specs.declared.row.Node.{Node}
 use Rattle.id_table.specs.declared.row.Node.TheVariants.{Param, Literal, Name, Unary, Binary, If, Call, Block}
@@ -16,15 +17,18 @@ use Rattle.id_source.specs.Sources.{Source}
 use Rattle.id_source.specs.Facts.{name_has, block_has, without}
 use Rattle.id_source.specs.Rounds.{Holds}
 use Rattle.id_desugar.specs.Regions.{has_index, imports_of}
-use Rattle.id_build.specs.Rows.{block, entries_row, home, home_by, label, label_by, node, output, name_in, named_in, origin_of, origin}
+use Rattle.id_build.specs.Rows.{block, entries_row, home, home_by, label, label_by, node, output, name_in, named_in}
+use Rattle.id_build.specs.Rows.{origin_of, origin}
 use Rattle.id_runs.specs.Activations.{Activation}
 use Rattle.id_runs.specs.Events.{Event}
 use Rattle.id_laws.specs.Activations.{Live, Tests, of_arms, of_turns}
-use Rattle.id_laws.specs.Topics.{Topic, Turned, ValueOf, NameIn, BoundIn, ShownFlag, Tells, counted_of, entry_of, handed_of, speaks_of, split_of, topic_of}
+use Rattle.id_laws.specs.Topics.{Topic, Turned, ValueOf, NameIn, BoundIn, ShownFlag, Tells, counted_of, entry_of}
+use Rattle.id_laws.specs.Topics.{handed_of, speaks_of, split_of, topic_of}
 use Rattle.id_laws.proofs.Rows.Assumed.{IsKnown}
 use Rattle.id_laws.proofs.Rows.Conditionals.{no_within}
 use Rattle.id_laws.proofs.Paths.Counted.{bound_first, bound_side, bound_top, flag_origin, switches_block}
-use Rattle.id_laws.proofs.Rows.Loops.{LoopOf, IsCounted, carried_stands, counted_of as counted_of_loop, index_at, index_region, loop_of_row, own_switches}
+use Rattle.id_laws.proofs.Rows.Loops.{LoopOf, IsCounted, carried_stands, counted_of as counted_of_loop, index_at}
+use Rattle.id_laws.proofs.Rows.Loops.{index_region, loop_of_row, own_switches}
 use Rattle.id_laws.proofs.Rows.Loops.{switches_node, switches_same}
 use Rattle.id_laws.proofs.Rows.LoopRows.{variable_of_next}
 use Rattle.id_build.proofs.LoopsLemmas.{entries_node, entries_stand}
@@ -41,13 +45,20 @@ pub label_topic : (P : Checked) → IsKnown P → (b : ℕ) → b < length (rows
     → topic_of P (output (label P b)) ≡ NameIn (checked.region P (home P b)) b
 label_topic P known b within e = go (node P b) refl e
   where
-    own : label P b ≡ b → home P b ≡ b → speaks_of P b (checked.region P b) (node P b) 0 true ≡ NameIn (checked.region P b) b
+    own : label P b ≡ b → home P b ≡ b
+        → speaks_of P b (checked.region P b) (node P b) 0 true ≡ NameIn (checked.region P b) b
         → topic_of P (output (label P b)) ≡ NameIn (checked.region P (home P b)) b
-    own same here topic = ap (λ z. topic_of P (output z)) same ∙ topic ∙ ap (λ z. NameIn (checked.region P z) b) (sym here)
+    own same here topic =
+        ap (λ z. topic_of P (output z)) same ∙ topic ∙ ap (λ z. NameIn (checked.region P z) b) (sym here)
 
-    go : (m : Node) → node P b ≡ m → is_binder m ≡ true → topic_of P (output (label P b)) ≡ NameIn (checked.region P (home P b)) b
-    go (Param x k) is h = own (ap (label_by (block P b) b) is) (ap (home_by (block P b) b) is) (ap (λ z. speaks_of P b (checked.region P b) z 0 true) is)
-    go (Binding x a) is h = own (ap (label_by (block P b) b) is) (ap (home_by (block P b) b) is) (ap (λ z. speaks_of P b (checked.region P b) z 0 true) is)
+    go : (m : Node) → node P b ≡ m → is_binder m ≡ true
+        → topic_of P (output (label P b)) ≡ NameIn (checked.region P (home P b)) b
+    go (Param x k) is h =
+        own (ap (label_by (block P b) b) is) (ap (home_by (block P b) b) is)
+        (ap (λ z. speaks_of P b (checked.region P b) z 0 true) is)
+    go (Binding x a) is h =
+        own (ap (label_by (block P b) b) is) (ap (home_by (block P b) b) is)
+        (ap (λ z. speaks_of P b (checked.region P b) z 0 true) is)
     go (Index x) is h =
         let z = index_loop known within is in
         let g = block P b in
@@ -58,7 +69,8 @@ label_topic P known b within e = go (node P b) refl e
         let at : b ≡ index_row (z.0.the).switches = index_at known within is z.0 in
         let stands : checked.region P b ≡ arm_at (z.0.the).switches true = index_region known within is z.0 z.1 in
         let w = switches_same P known g z.0 in
-        ap (λ i. topic_of P (output i)) same ∙ ap (λ m. speaks_of P (g + 1) (checked.region P (g + 1)) m 0 true) z.1.entry
+        ap (λ i. topic_of P (output i)) same
+        ∙ ap (λ m. speaks_of P (g + 1) (checked.region P (g + 1)) m 0 true) z.1.entry
         ∙ (λ i. entry_of P (in_block i) (g + 1 - (in_block i + 1))) ∙ ap (entry_of P g) first
         ∙ (λ i. NameIn (arm_at (w i) true) (index_row (w i)))
         ∙ (λ i. NameIn (sym stands i) (sym at i)) ∙ ap (λ z. NameIn (checked.region P z) b) (sym here)
@@ -102,22 +114,27 @@ pub hands_name : (P : Checked) (known : IsKnown P) {n t : ℕ} (r : Region) (k :
     → is_binder (node P (get_or (imports_of P n) k 0)) ≡ true
     → hands_topic P r n (node P n) (suc k) ≡ NameIn r (get_or (imports_of P n) k 0)
 hands_name P known {n} r k within (of_arms is) binds = ap (λ z. hands_topic P r n z (suc k)) is
-hands_name P known {n} {t} r k within (of_turns is) binds = ap (λ z. hands_topic P r n z (suc k)) is ∙ go (has_index P (block P n)) refl k binds
+hands_name P known {n} {t} r k within (of_turns is) binds =
+    ap (λ z. hands_topic P r n z (suc k)) is ∙ go (has_index P (block P n)) refl k binds
   where
     go : (u : Truth) → has_index P (block P n) ≡ u → (k : ℕ) → is_binder (node P (get_or (imports_of P n) k 0)) ≡ true
         → handed_of P r (block P n) (imports_of P n) (suc k) ≡ NameIn r (get_or (imports_of P n) k 0)
-    go false none k binds = ap (λ u. cond u (counted_of r (block P n) (imports_of P n) (suc k)) (NameIn r (get_or (imports_of P n) k 0))) none
+    go false none k binds =
+        ap (λ u. cond u (counted_of r (block P n) (imports_of P n) (suc k)) (NameIn r (get_or (imports_of P n) k 0)))
+        none
     go true has zero binds =
         let l = loop_of_row known (Switches t) within is refl in
         let c = counted_of_loop P l.all has in
         let w = own_switches P known n t within is l in
         let first : get_or (imports_of P n) 0 0 ≡ block P n + 2 =
-        ap (λ i. get_or (imports_of P i) 0 0) (sym w) ∙ ap (λ bs. get_or bs 0 0) (bound_first P known (block P n) l c) in
+        ap (λ i. get_or (imports_of P i) 0 0) (sym w)
+        ∙ ap (λ bs. get_or bs 0 0) (bound_first P known (block P n) l c) in
         absurd (true_false (sym binds ∙ ap (λ i. is_binder (node P i)) first ∙ ap is_binder c.bound))
     go true has (suc k) binds =
         ap (λ u. cond u (NameIn r (get_or (imports_of P n) (suc k) 0)) (split_of r (imports_of P n) (suc (suc k)))) has
 
-module _ (S : Source) (known : IsKnown S.checked) (number : ℕ → ℕ → ℕ) (run : List Event) (seats : OneSeat S number run) where
+module _ (S : Source) (known : IsKnown S.checked) (number : ℕ → ℕ
+    → ℕ) (run : List Event) (seats : OneSeat S number run) where
   abbrev P : Checked
   P = S.checked
 
@@ -126,7 +143,8 @@ module _ (S : Source) (known : IsKnown S.checked) (number : ℕ → ℕ → ℕ)
   ShowsRow a e v = Tells S number run a (ValueOf e) v
 
   -- a block of an expression's region Has its body's value
-  block_shows : (a : Activation) (e b : ℕ) (v : Value) → e < length (rows P) → node P e ≡ Block b → ShowsRow a b v → ShowsRow a e v
+  block_shows : (a : Activation) (e b : ℕ) (v : Value) → e < length (rows P) → node P e ≡ Block b → ShowsRow a b v
+      → ShowsRow a e v
   block_shows a e b v within is w =
       let stands = (known.table).part_stands e b within (subst (λ z. HasNear z b) (sym is) refl) in
       let live = subst (Live S number run a) stands.1 w.0 in
@@ -145,8 +163,8 @@ module _ (S : Source) (known : IsKnown S.checked) (number : ℕ → ℕ → ℕ)
       )
 
   -- so does each row whose value is another's
-  value_shows : (bound : ℕ) (a : Activation) (e : ℕ) (v : Value) → e < bound → e < length (rows P) → is_expression (node P e) ≡ true
-      → ShowsRow a (at (rows P) e).value v → ShowsRow a e v
+  value_shows : (bound : ℕ) (a : Activation) (e : ℕ) (v : Value) → e < bound → e < length (rows P)
+      → is_expression (node P e) ≡ true → ShowsRow a (at (rows P) e).value v → ShowsRow a e v
   value_shows zero a e v small within is w = absurd (omega arith)
   value_shows (suc bound) a e v small within is w = go (node P e) refl (value_shows bound a)
     where
@@ -154,8 +172,8 @@ module _ (S : Source) (known : IsKnown S.checked) (number : ℕ → ℕ → ℕ)
       itself plain = subst (λ z. ShowsRow a z v) ((known.table).value_self e within plain (no_within (node P e) is)) w
 
       go : (m : Node) → node P e ≡ m
-          → ((x : ℕ) (u : Value) → x < bound → x < length (rows P) → is_expression (node P x) ≡ true → ShowsRow a (at (rows P) x).value u → ShowsRow a x u)
-          → ShowsRow a e v
+          → ((x : ℕ) (u : Value) → x < bound → x < length (rows P) → is_expression (node P x) ≡ true
+          → ShowsRow a (at (rows P) x).value u → ShowsRow a x u) → ShowsRow a e v
       go (Block b) m rest =
           let has_part : HasPart (node P e) b = subst (λ z. HasPart z b) (sym m) refl in
           let less = (((known.table).formed).each e within).parts b has_part in
@@ -165,13 +183,15 @@ module _ (S : Source) (known : IsKnown S.checked) (number : ℕ → ℕ → ℕ)
       go _ m rest = itself (ap is_block m)
 
   -- what a name's binder Has as the name's region sees it, the name Has
-  name_shows : (a : Activation) (n x b : ℕ) (v : Value) → n < length (rows P) → node P n ≡ Name x → checked.binder P n ≡ Some b
-      → Tells S number run a (NameIn (region P n) b) v → ShowsRow a n v
+  name_shows : (a : Activation) (n x b : ℕ) (v : Value) → n < length (rows P) → node P n ≡ Name x
+      → checked.binder P n ≡ Some b → Tells S number run a (NameIn (region P n) b) v → ShowsRow a n v
   name_shows a n x b v within is binds w =
       let live = w.0 in
       let shown = w.1 in
       let on = turned_on S known seats live shown.path_of ((known.table).turned n within (ap is_expression is)) in
-      let deep = same_depth P (region P n).head n b (region_of known within (λ e. let bad : Name x ≡ Program = sym is ∙ e in cc)).block in
+      let deep =
+      same_depth P (region P n).head n b (region_of known within (λ e. let bad : Name x ≡ Program = sym is ∙ e in
+      cc)).block in
       let has = subst (λ d. Holds S (Has (without d shown.path) (place P b) shown.value)) deep shown.holds in (
         live,
         record {
@@ -185,8 +205,9 @@ module _ (S : Source) (known : IsKnown S.checked) (number : ℕ → ℕ → ℕ)
       )
 
   -- what comes from where a region has a name tells what the binder Has
-  pub named_tells : (a : Activation) (r : Region) (b : ℕ) (v : Value) → b < length (rows P) → is_binder (node P b) ≡ true → Sees P b r
-      → Tells S number run a (topic_of P (name_in P r b)) v → Tells S number run a (NameIn r b) v
+  pub named_tells : (a : Activation) (r : Region) (b : ℕ) (v : Value) → b < length (rows P)
+      → is_binder (node P b) ≡ true → Sees P b r → Tells S number run a (topic_of P (name_in P r b)) v
+      → Tells S number run a (NameIn r b) v
   named_tells a r b v inside binds sees tells = by (comes P r b sees)
     where
       by : Comes P r b → Tells S number run a (NameIn r b) v
@@ -238,14 +259,17 @@ module _ (S : Source) (known : IsKnown S.checked) (number : ℕ → ℕ → ℕ)
       ∙ (λ i. entry_of P (stand.0 i) (h + 3 - (stand.0 i + 1))) ∙ ap (entry_of P h) third) tells
 
   -- what the row that gives a value speaks of
-  giver_shows : (a : Activation) (w : ℕ) (v : Value) → w < length (rows P) → is_expression (node P w) ≡ true → is_block (node P w) ≡ false
-      → Tells S number run a (topic_of P (origin_of P w (region P w) (node P w))) v → ShowsRow a w v
+  giver_shows : (a : Activation) (w : ℕ) (v : Value) → w < length (rows P) → is_expression (node P w) ≡ true
+      → is_block (node P w) ≡ false → Tells S number run a (topic_of P (origin_of P w (region P w) (node P w))) v
+      → ShowsRow a w v
   giver_shows a w v within expression no_block tells = go (node P w) refl
     where
-      own : (m : Node) → node P w ≡ m → origin_of P w (region P w) m ≡ output w → speaks_of P w (region P w) m 0 true ≡ ValueOf w → ShowsRow a w v
+      own : (m : Node) → node P w ≡ m → origin_of P w (region P w) m ≡ output w
+          → speaks_of P w (region P w) m 0 true ≡ ValueOf w → ShowsRow a w v
       own m is from topic =
           subst (λ z. Tells S number run a z v)
-          (ap (λ z. topic_of P (origin_of P w (region P w) z)) is ∙ ap (topic_of P) from ∙ ap (λ z. speaks_of P w (region P w) z 0 true) is ∙ topic) tells
+          (ap (λ z. topic_of P (origin_of P w (region P w) z)) is ∙ ap (topic_of P) from
+          ∙ ap (λ z. speaks_of P w (region P w) z 0 true) is ∙ topic) tells
 
       go : (m : Node) → node P w ≡ m → ShowsRow a w v
       go (Name x) is =
@@ -254,7 +278,8 @@ module _ (S : Source) (known : IsKnown S.checked) (number : ℕ → ℕ → ℕ)
           let from : origin_of P w (region P w) (node P w) ≡ name_in P (region P w) b =
           ap (origin_of P w (region P w)) is ∙ ap (named_in P (region P w) w) known_binder.1 in
           name_shows a w x b v within is known_binder.1
-          (named_tells a (region P w) b v known_binder.2 known_binder.3 known_binder.4 (subst (λ z. Tells S number run a z v) (ap (topic_of P) from) tells))
+          (named_tells a (region P w) b v known_binder.2 known_binder.3 known_binder.4
+          (subst (λ z. Tells S number run a z v) (ap (topic_of P) from) tells))
       go (Literal c) is = own (Literal c) is refl refl
       go (Unary o x) is = own (Unary o x) is refl refl
       go (Binary o x y) is = own (Binary o x y) is refl refl
@@ -264,7 +289,8 @@ module _ (S : Source) (known : IsKnown S.checked) (number : ℕ → ℕ → ℕ)
       go (Array nested x y) is = own (Array nested x y) is refl refl
       go (Fetch x y) is =
           subst (λ z. Tells S number run a z v)
-          (ap (λ z. topic_of P (origin_of P w (region P w) z)) is ∙ ap (λ z. speaks_of P w (region P w) z 2 true) is) tells
+          (ap (λ z. topic_of P (origin_of P w (region P w) z)) is ∙ ap (λ z. speaks_of P w (region P w) z 2 true) is)
+          tells
       go (Block b) is = let bad : true ≡ false = sym (ap is_block is) ∙ no_block in cc
       go _ is = absurd (true_false (sym expression ∙ ap is_expression is))
 
@@ -274,4 +300,5 @@ module _ (S : Source) (known : IsKnown S.checked) (number : ℕ → ℕ → ℕ)
   origin_shows a e v within expression tells =
       let w = (at (rows P) e).value in
       let stands = (known.table).value_stands e within expression in
-      value_shows (suc e) a e v (omega arith) within expression (giver_shows a w v (omega (arith, stands.0)) stands.1 stands.2 tells)
+      value_shows (suc e) a e v (omega arith) within expression
+      (giver_shows a w v (omega (arith, stands.0)) stands.1 stands.2 tells)

@@ -53,32 +53,40 @@ take_none (suc n) = refl
 without_outermost : (d : ℕ) → without d outermost ≡ outermost
 without_outermost d = ap (λ ss. record { steps = ss }) (take_none (0 - d))
 
-module _ (S : Source) (known : IsKnown S.checked) (g : Parts) (number : ℕ → ℕ → ℕ) (numbered : Numbered S.checked g number) (run : List Event) where
+module _ (S : Source) (known : IsKnown S.checked) (g : Parts) (number : ℕ → ℕ
+    → ℕ) (numbered : Numbered S.checked g number) (run : List Event) where
   abbrev P : Checked
   P = S.checked
 
   -- main's parameters stand in main's region
   input_live : (b : ℕ) (c : Constant) (x : IsInput S b c) → Live S number run main_activation (region P b)
   input_live b c x =
-      let p = a_param (rows P) (main_head P) (length (rows P)) b (Among-from_at b (params_at (rows P) (main_head P)) x.number x.param) in
-      subst (Live S number run main_activation) (sym (known.params b (p.param).name (p.param).kind p.within (p.param).is ∙ ap top p.block)) at_start
+      let p = a_param (rows P) (main_head P) (length (rows P)) b
+      (Among-from_at b (params_at (rows P) (main_head P)) x.number x.param) in
+      subst (Live S number run main_activation)
+      (sym (known.params b (p.param).name (p.param).kind p.within (p.param).is ∙ ap top p.block)) at_start
 
-  input_tells : (b : ℕ) (c : Constant) (x : IsInput S b c) → Tells S number run main_activation (topic_at P b 0 Zero) (constant_value c)
+  input_tells : (b : ℕ) (c : Constant) (x : IsInput S b c)
+      → Tells S number run main_activation (topic_at P b 0 Zero) (constant_value c)
   input_tells b c x =
-      let p = a_param (rows P) (main_head P) (length (rows P)) b (Among-from_at b (params_at (rows P) (main_head P)) x.number x.param) in
+      let p = a_param (rows P) (main_head P) (length (rows P)) b
+      (Among-from_at b (params_at (rows P) (main_head P)) x.number x.param) in
       let d = loops_between (rows P) (region P b).head b in
-      subst (λ m. Tells S number run main_activation (wants P b (region P b) m 0 Zero) (constant_value c)) (sym (p.param).is) (
+      subst (λ m. Tells S number run main_activation (wants P b (region P b) m 0 Zero) (constant_value c))
+      (sym (p.param).is) (
         input_live b c x,
         record {
           path = outermost;
           path_of = main_path;
           value = value_of c;
           stands = constant_stands S number run c;
-          holds = subst (λ z. Holds S (Has z (place P b) (value_of c))) (sym (without_outermost d)) (holds_by S _ _ (param_has x) tt);
+          holds = subst (λ z. Holds S (Has z (place P b) (value_of c))) (sym (without_outermost d))
+              (holds_by S _ _ (param_has x) tt);
         },
       )
 
-  tells_at_start : {n part : ℕ} {p : Port} {v : Value} → StartsAt S number n part p v → Tells S number run main_activation (topic_at P n part p) v
+  tells_at_start : {n part : ℕ} {p : Port} {v : Value} → StartsAt S number n part p v
+      → Tells S number run main_activation (topic_at P n part p) v
   tells_at_start signal =
       subst (λ m. Tells S number run main_activation (wants P (main_head P) (region P (main_head P)) m 0 Zero) Signal)
       (sym (main_is_head S g number numbered known)) (refl, at_start)
@@ -88,7 +96,8 @@ module _ (S : Source) (known : IsKnown S.checked) (g : Parts) (number : ℕ → 
       (record { caller = main_activation; row = _; is = refl; returns = to_answer; at_first = refl })
   tells_at_start (input b c x) = input_tells b c x
 
-  told_start : (x : Payload) {t : Tag} {p : Port} {v : Value} → x ≡ Token t p v → ToldToken S number run x → Told S number run x
+  told_start : (x : Payload) {t : Tag} {p : Port} {v : Value} → x ≡ Token t p v → ToldToken S number run x
+      → Told S number run x
   told_start x is told = subst (Told S number run) (sym is) (subst (ToldToken S number run) is told)
 
   start_tells : (x : Payload) → Among x (starting g S.inputs) → Told S number run x
@@ -119,10 +128,11 @@ module _ (S : Source) (known : IsKnown S.checked) (g : Parts) (number : ℕ → 
     all_tell backed = tell.all_tell S known g number numbered run seats structures backed start_tells count s r
 
     -- a row that has made a context stands in a live region
-    pub opening_live : IsBacked S run → (a : Activation) (n h q : ℕ) (c : Context) → n < length (rows P) → Begins P n h q → Opens S number run a n c
-        → Live S number run a (region P n)
+    pub opening_live : IsBacked S run → (a : Activation) (n h q : ℕ) (c : Context) → n < length (rows P)
+        → Begins P n h q → Opens S number run a n c → Live S number run a (region P n)
     opening_live backed a n h q c within is o =
-        let m = tell.firing_tells S known g number numbered run seats structures backed run r (λ z h. all_tell backed z (inr h)) o in
+        let m = tell.firing_tells S known g number numbered run seats structures backed run r
+        (λ z h. all_tell backed z (inr h)) o in
         let one = one_part numbered (m.0).is_part (part_of within (opens is)) (ap (λ (t : Tag). t.instr) (m.0).at) in
         subst (λ k. Live S number run a (region P k)) one.0 (m.1).live
 

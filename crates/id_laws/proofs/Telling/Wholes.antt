@@ -1,5 +1,6 @@
 -- What a place of a source Has, where it is a number, is one of the language, if literals and inputs are.
-use Rattle.std.proofs.Common.{◌≡◌, inl, inr, ℕ, zero, suc, ◌<◌, ℤ, Bool as Truth, true, false, cond, List, [], ◌∷◌, refl, sym, ◌∙◌, subst, arith}
+use Rattle.std.proofs.Common.{◌≡◌, inl, inr, ℕ, zero, suc, ◌<◌, ℤ, Bool as Truth, true, false, cond, List, [], ◌∷◌}
+use Rattle.std.proofs.Common.{refl, sym, ◌∙◌, subst, arith}
 use Rattle.std.specs.Prelude.{neg_ℤ, pos, negsuc, ◌+ℤ◌, ◌-ℤ◌, ◌*ℤ◌, int_lt, int_div, int_rem}
 use Rattle.std.proofs.Common.{int_eq}
 use Rattle.std.specs.Prelude.{unsigned_abs, slice_get, None, Some}
@@ -31,8 +32,10 @@ use Rattle.id_source.specs.declared.Fact.{Fact}
 use Rattle.id_source.specs.declared.Fact.TheVariants.{Has, Put}
 use Rattle.id_source.specs.Sources as sources
 use Rattle.id_source.specs.Sources.{Source, AreFor, AreInputs, IsInput, SuitsParam, main_params, value_of}
-use Rattle.id_source.specs.Facts.{Rule, param_has, literal_has, unary_has, binary_has, name_has, conditional_has, block_has, binding_has, argument_has}
-use Rattle.id_source.specs.Facts.{call_has, first_has, next_has, loop_has, index_begins, index_counts, array_has, fetch_has, puts}
+use Rattle.id_source.specs.Facts.{Rule, param_has, literal_has, unary_has, binary_has, name_has, conditional_has}
+use Rattle.id_source.specs.Facts.{block_has, binding_has, argument_has}
+use Rattle.id_source.specs.Facts.{call_has, first_has, next_has, loop_has, index_begins, index_counts, array_has}
+use Rattle.id_source.specs.Facts.{fetch_has, puts}
 use Rattle.id_source.specs.Rounds.{Every, Rounds, Holds}
 
 -- a number of the language, or another value
@@ -85,13 +88,15 @@ one_more (negsuc (suc m)) hi less low high = grind (arith, nat_tests)
 
 remainder_given : (t : Truth) (a b : ℤ) (c : Constant) → is_whole b ≡ true → (int_eq b (pos 0) ≡ true → ⊥)
     → cond t (Gives (Int (int_rem a b))) (Fails Overflow) ≡ Gives c → IsWhole (value_of c)
-remainder_given true a b c w some e = let same : Int (int_rem a b) ≡ c = cc in subst (λ z. IsWhole (value_of z)) same (remainder_whole a b w some)
+remainder_given true a b c w some e =
+    let same : Int (int_rem a b) ≡ c = cc in subst (λ z. IsWhole (value_of z)) same (remainder_whole a b w some)
 remainder_given false a b c w some e = cc
 
 true_false : true ≡ false → ⊥
 true_false h = cc
 
-divided_given : (o : Outcome) (b : ℤ) (c : Constant) → ((int_eq b (pos 0) ≡ true → ⊥) → o ≡ Gives c → IsWhole (value_of c))
+divided_given : (o : Outcome) (b : ℤ) (c : Constant)
+    → ((int_eq b (pos 0) ≡ true → ⊥) → o ≡ Gives c → IsWhole (value_of c))
     → cond (int_eq b (pos 0)) (Fails DivisionByZero) o ≡ Gives c → IsWhole (value_of c)
 divided_given o b c given e = go (int_eq b (pos 0)) refl e
   where
@@ -109,12 +114,14 @@ lacks_given c e = absurd (no e)
     no : {c : Constant} → Lacks ≡ Gives c → ⊥
     no e = cc
 
-calculated_whole : (o : Arithmetic) (a b : ℤ) (c : Constant) → is_whole b ≡ true → calculated o a b ≡ Gives c → IsWhole (value_of c)
+calculated_whole : (o : Arithmetic) (a b : ℤ) (c : Constant) → is_whole b ≡ true → calculated o a b ≡ Gives c
+    → IsWhole (value_of c)
 calculated_whole Add a b c w e = whole_given (a +ℤ b) c e
 calculated_whole Sub a b c w e = whole_given (a -ℤ b) c e
 calculated_whole Mul a b c w e = whole_given (a *ℤ b) c e
 calculated_whole Div a b c w e = divided_given (whole (int_div a b)) b c (λ some. whole_given (int_div a b) c) e
-calculated_whole Rem a b c w e = divided_given (remainder a b) b c (λ some. remainder_given (is_whole (int_div a b)) a b c w some) e
+calculated_whole Rem a b c w e =
+    divided_given (remainder a b) b c (λ some. remainder_given (is_whole (int_div a b)) a b c w some) e
 
 unary_whole : (o : UnaryOp) (a c : Constant) → result_of_unary o a ≡ Gives c → IsWhole (value_of c)
 unary_whole Neg (Int n) c e = whole_given (neg_ℤ n) c e
@@ -122,7 +129,8 @@ unary_whole Neg (Bool b) c e = lacks_given c e
 unary_whole Not (Int n) c e = lacks_given c e
 unary_whole Not (Bool b) c e = truth_given _ c e
 
-binary_whole : (o : BinaryOp) (a b c : Constant) → IsWhole (value_of b) → result_of_binary o a b ≡ Gives c → IsWhole (value_of c)
+binary_whole : (o : BinaryOp) (a b c : Constant) → IsWhole (value_of b) → result_of_binary o a b ≡ Gives c
+    → IsWhole (value_of c)
 binary_whole (class.Arithmetic o) (Int m) (Int n) c w e = calculated_whole o m n c w e
 binary_whole (class.Comparison o) (Int m) (Int n) c w e = truth_given _ c e
 binary_whole (class.Comparison Eq) (Bool m) (Bool n) c w e = truth_given _ c e
@@ -155,7 +163,8 @@ module _ (S : Source) (are : AreWhole S) where
   by_rule (puts x inside) h = h.1.1.1.0
   by_rule _ h = tt
 
-  every : (m : ℕ) → ((f : Fact) → Rounds S m f → SaysWhole f) → (fs : List Fact) → Every (Rounds S m) fs → Every SaysWhole fs
+  every : (m : ℕ) → ((f : Fact) → Rounds S m f → SaysWhole f) → (fs : List Fact) → Every (Rounds S m) fs
+      → Every SaysWhole fs
   every m one [] h = tt
   every m one (f ∷ fs) h = (one f h.0, every m one fs h.1)
 
@@ -182,8 +191,8 @@ suits_whole : (m : Node) (c : Constant) → SuitsParam m c → sources.IsWhole c
 suits_whole (Param x k) c h = h.1
 suits_whole _ c h = absurd h
 
-input_whole : (P : Checked) (bs : List ℕ) (vs : List Constant) (n b : ℕ) (c : Constant) → AreFor P bs vs → slice_get bs n ≡ Some b
-    → slice_get vs n ≡ Some c → sources.IsWhole c
+input_whole : (P : Checked) (bs : List ℕ) (vs : List Constant) (n b : ℕ) (c : Constant) → AreFor P bs vs
+    → slice_get bs n ≡ Some b → slice_get vs n ≡ Some c → sources.IsWhole c
 input_whole P [] vs n b c h e f = absurd (none e)
   where
     none : {x : ℕ} → None ≡ Some x → ⊥
@@ -200,5 +209,6 @@ input_whole P (x ∷ bs) (w ∷ vs) (suc n) b c h e f = input_whole P bs vs n b 
 pub are_whole : (S : Source) → AreInputs S.checked S.inputs → AreWhole S
 are_whole S inputs = record {
   literals = literal_whole S.checked;
-  inputs = λ b c x. constant_whole c (input_whole S.checked (main_params S.checked) S.inputs x.number b c inputs x.param x.value);
+  inputs = λ b c x. constant_whole c
+      (input_whole S.checked (main_params S.checked) S.inputs x.number b c inputs x.param x.value);
 }

@@ -1,5 +1,6 @@
 -- What a thing Has is of its kind.
-use Rattle.std.proofs.Common.{◌≡◌, inl, inr, ℕ, zero, suc, ◌<◌, Bool as Truth, true, false, Option, Some, None, List, [], ◌∷◌, length, slice_get}
+use Rattle.std.proofs.Common.{◌≡◌, inl, inr, ℕ, zero, suc, ◌<◌, Bool as Truth, true, false, Option, Some, None, List}
+use Rattle.std.proofs.Common.{[], ◌∷◌, length, slice_get}
 use Rattle.std.proofs.Common.{arith, refl, sym, ◌∙◌, ap, subst}
 use Rattle.std.specs.Prelude.{neg_ℤ, ◌+ℤ◌, pos}
 use Rattle.id_value.specs.declared.Kind.{Kind}
@@ -19,8 +20,10 @@ use Rattle.id_value.specs.Results.{result_of_unary, result_of_binary}
 use Rattle.id_value.proofs.ResultsLemmas.{IsNumberOrFault, whole-number, calculated-number}
 use Rattle.id_value.proofs.AmongLemmas.{Among-from_at}
 use Rattle.id_table.specs.declared.row.Node.{Node}
-use Rattle.id_table.specs.declared.row.Node.TheVariants.{Head, Param, Split, If, Binding, Program, Enter, Arg, Def, Fetch, Address}
-use Rattle.id_table.specs.declared.row.Node.TheVariants.{Start, LoopHead, Variable, Entries, Switches, Turn, NextUse, Next, Body, Reset}
+use Rattle.id_table.specs.declared.row.Node.TheVariants.{Head, Param, Split, If, Binding, Program, Enter, Arg, Def}
+use Rattle.id_table.specs.declared.row.Node.TheVariants.{Fetch, Address}
+use Rattle.id_table.specs.declared.row.Node.TheVariants.{Start, LoopHead, Variable, Entries, Switches, Turn, NextUse}
+use Rattle.id_table.specs.declared.row.Node.TheVariants.{Next, Body, Reset}
 use Rattle.id_table.specs.declared.row.Node.TheVariants.{Array, Bounds, Carried, Within, Count, Index, Span}
 use Rattle.id_table.specs.Rows.{at}
 use Rattle.id_table.specs.Tables.{HasOperand, is_thing, is_binder, is_expression}
@@ -36,9 +39,12 @@ use Rattle.id_source.specs.declared.Fact.TheVariants as facts
 use Rattle.id_source.specs.declared.Ask.{Ask}
 use Rattle.id_source.specs.declared.Put.{Put}
 use Rattle.id_source.specs.declared.SourceValue.TheVariants as source
-use Rattle.id_source.specs.Sources.{Source, AreFor, AreInputs, IsArrayAt, IsInput, IsOfKind, SuitsParam, main_params, value_of}
-use Rattle.id_source.specs.Facts.{Rule, Chooses, then_arm, else_arm, param_has, literal_has, unary_has, binary_has, name_has, conditional_has, block_has}
-use Rattle.id_source.specs.Facts.{binding_has, argument_has, call_has, first_has, next_has, loop_has, index_begins, index_counts, array_has, fetch_has, asks, puts, site}
+use Rattle.id_source.specs.Sources.{Source, AreFor, AreInputs, IsArrayAt, IsInput, IsOfKind, SuitsParam, main_params}
+use Rattle.id_source.specs.Sources.{value_of}
+use Rattle.id_source.specs.Facts.{Rule, Chooses, then_arm, else_arm, param_has, literal_has, unary_has, binary_has}
+use Rattle.id_source.specs.Facts.{name_has, conditional_has, block_has}
+use Rattle.id_source.specs.Facts.{binding_has, argument_has, call_has, first_has, next_has, loop_has, index_begins}
+use Rattle.id_source.specs.Facts.{index_counts, array_has, fetch_has, asks, puts, site}
 use Rattle.id_source.specs.Rounds.{Every, Rounds, Holds}
 use Rattle.id_build.specs.Rows.{node, port_at, param_of}
 use Rattle.id_laws.specs.Activations.{main_head}
@@ -85,8 +91,8 @@ binary_gives (class.Logic Or) (Bool m) (Bool n) c e = gives_truth _ c e
 binary_gives _ _ _ c e = lacks_gives c e
 
 -- an input is of its parameter's kind
-input_suits : (P : Checked) (bs : List ℕ) (vs : List Constant) (n b : ℕ) (v : Constant) → AreFor P bs vs → slice_get bs n ≡ Some b
-    → slice_get vs n ≡ Some v → SuitsParam (at (rows P) b).node v
+input_suits : (P : Checked) (bs : List ℕ) (vs : List Constant) (n b : ℕ) (v : Constant) → AreFor P bs vs
+    → slice_get bs n ≡ Some b → slice_get vs n ≡ Some v → SuitsParam (at (rows P) b).node v
 input_suits P [] vs n b v h e f = absurd (none e)
   where
     none : {x : ℕ} → None ≡ Some x → ⊥
@@ -95,15 +101,16 @@ input_suits P (x ∷ bs) [] n b v h e f = absurd h
 input_suits P (x ∷ bs) (w ∷ vs) zero b v h e f =
     let row_is : x ≡ b = some_is e in
     let value_is : w ≡ v = some_is f in
-    subst (λ (z : ℕ × Constant). SuitsParam (at (rows P) z.0).node z.1) {x = (x, w)} {y = (b, v)} (λ i. (row_is i, value_is i)) h.0
+    subst (λ (z : ℕ × Constant). SuitsParam (at (rows P) z.0).node z.1) {x = (x, w)} {y =
+    (b, v)} (λ i. (row_is i, value_is i)) h.0
   where
     some_is : {A : Type 0} {x y : A} → Some x ≡ Some y → x ≡ y
     some_is e = cc
 input_suits P (x ∷ bs) (w ∷ vs) (suc n) b v h e f = input_suits P bs vs n b v h.1 e f
 
 -- a parameter that suits the value has its kind
-pub param_suits : (P : Checked) → IsKnown P → (b : ℕ) (v : Constant) → b < length (rows P) → (m : Node) → node P b ≡ m → SuitsParam m v
-    → kind P b ≡ Some (constant_kind v)
+pub param_suits : (P : Checked) → IsKnown P → (b : ℕ) (v : Constant) → b < length (rows P) → (m : Node) → node P b ≡ m
+    → SuitsParam m v → kind P b ≡ Some (constant_kind v)
 param_suits P known b v within (Param x k) is h = known.param_kind b x k within is ∙ ap (λ z. Some z) (sym h.0)
 param_suits P known b v within _ is h = absurd h
 
@@ -208,16 +215,20 @@ module _ (S : Source) (known : IsKnown S.checked) (inputs : AreInputs S.checked 
 
   -- the values of a place are of the kind of the thing there, as far as this round
   abbrev Kinded : ℕ → Type 0
-  Kinded m = (n : ℕ) (p : Path) (v : SourceValue) → n < length (rows P) → is_thing (node P n) ≡ true → Rounds S m (Has p (place P n) v) → OfKind n v
+  Kinded m =
+      (n : ℕ) (p : Path) (v : SourceValue) → n < length (rows P) → is_thing (node P n) ≡ true
+      → Rounds S m (Has p (place P n) v) → OfKind n v
 
   -- what stands at one place is one row
-  one_row : (n m : ℕ) (x : Node) (v : SourceValue) → Stands P m x → is_thing x ≡ true → n < length (rows P) → is_thing (node P n) ≡ true
-      → place P m ≡ place P n → OfKind m v → OfKind n v
+  one_row : (n m : ℕ) (x : Node) (v : SourceValue) → Stands P m x → is_thing x ≡ true → n < length (rows P)
+      → is_thing (node P n) ≡ true → place P m ≡ place P n → OfKind m v → OfKind n v
   one_row n m x v stands thing within is_a_thing same h =
-      subst (λ z. OfKind z v) ((known.apart).apart m n stands.within within (ap is_thing stands.node ∙ thing) is_a_thing same) h
+      subst (λ z. OfKind z v)
+      ((known.apart).apart m n stands.within within (ap is_thing stands.node ∙ thing) is_a_thing same) h
 
   -- an operand is a thing
-  pub operand_of : (n a : ℕ) → n < length (rows P) → HasOperand (node P n) a → (a < length (rows P)) × (is_thing (node P a) ≡ true)
+  pub operand_of : (n a : ℕ) → n < length (rows P) → HasOperand (node P n) a
+      → (a < length (rows P)) × (is_thing (node P a) ≡ true)
   operand_of n a within operand =
       let less = (((known.table).formed).each n within).parts a (HasPart-operand (node P n) a operand) in
       (omega (arith, less.1, within), expression_thing (node P a) (known.operands n a within operand))
@@ -241,10 +252,28 @@ module _ (S : Source) (known : IsKnown S.checked) (inputs : AreInputs S.checked 
   arm_chosen : {n t a : ℕ} {b : Truth} → Chooses S n t b a → ArmOf n a
   arm_chosen {n} (then_arm {s = s} {a = x} {b = y} h k) =
       let inner = operand_of n x h.within (subst (λ z. HasOperand z x) (sym h.node) (inl refl)) in
-      record { split = s; then = x; otherwise = y; stands = h; within = inner.0; thing = inner.1; kind_is = (known.arm_kinds n s x y h.within h.node).0 }
+      record {
+        split = s;
+        then = x;
+        otherwise = y;
+        stands = h;
+        within = inner.0;
+        thing = inner.1;
+        kind_is =
+            (known.arm_kinds n s x y h.within h.node).0;
+      }
   arm_chosen {n} (else_arm {s = s} {a = x} {b = y} h k) =
       let inner = operand_of n y h.within (subst (λ z. HasOperand z y) (sym h.node) (inr refl)) in
-      record { split = s; then = x; otherwise = y; stands = h; within = inner.0; thing = inner.1; kind_is = (known.arm_kinds n s x y h.within h.node).1 }
+      record {
+        split = s;
+        then = x;
+        otherwise = y;
+        stands = h;
+        within = inner.0;
+        thing = inner.1;
+        kind_is =
+            (known.arm_kinds n s x y h.within h.node).1;
+      }
 
   -- a fetch stands where an Ask is
   record AskAt (x : Ask) : Type 0 where
@@ -266,7 +295,8 @@ module _ (S : Source) (known : IsKnown S.checked) (inputs : AreInputs S.checked 
   one_array {e} {j} {k} x y =
       let thing = λ (z : ℕ) (c : Truth) (a b : ℕ) (h : Stands P z (Array c a b)). ap is_thing h.node in
       let same : x.row ≡ y.row = (known.apart).apart x.row y.row (x.stands).within (y.stands).within
-      (thing x.row x.nested x.low x.high x.stands) (thing y.row y.nested y.low y.high y.stands) (sym x.place ∙ y.place) in
+      (thing x.row x.nested x.low x.high x.stands) (thing y.row y.nested y.low y.high y.stands) (sym x.place
+      ∙ y.place) in
       x.kind ∙ sym (known.array_kind x.row x.low x.high (x.stands).within (x.stands).node) ∙ ap (kind P) same
       ∙ known.array_kind y.row y.low y.high (y.stands).within (y.stands).node ∙ sym y.kind
 
@@ -276,12 +306,14 @@ module _ (S : Source) (known : IsKnown S.checked) (inputs : AreInputs S.checked 
     puts_of : (x : Put) → Rounds S m (facts.Put x) → PutAt x
     asks_of : (x : Ask) → Rounds S m (facts.Ask x) → AskAt x
 
-  kind_by : {fs : List Fact} {f : Fact} (m : ℕ) → Early m → Rule S fs f → Every (Rounds S m) fs → (n : ℕ) (p : Path) (v : SourceValue)
-      → n < length (rows P) → is_thing (node P n) ≡ true → f ≡ Has p (place P n) v → OfKind n v
+  kind_by : {fs : List Fact} {f : Fact} (m : ℕ) → Early m → Rule S fs f → Every (Rounds S m) fs
+      → (n : ℕ) (p : Path) (v : SourceValue) → n < length (rows P) → is_thing (node P n) ≡ true
+      → f ≡ Has p (place P n) v → OfKind n v
   kind_by m all (param_has {b = b} {c = w} x) h n p v within thing is =
       let z = a_param (rows P) (main_head P) (length (rows P)) b (Among-from_at b (main_params P) x.number x.param) in
       let parts = same_fact is in
-      subst (OfKind n) parts.1 (one_row n b _ (value_of w) (record { within = z.within; node = refl }) (param_thing z.param) within thing parts.0
+      subst (OfKind n) parts.1
+      (one_row n b _ (value_of w) (record { within = z.within; node = refl }) (param_thing z.param) within thing parts.0
       (input_kind b w x))
   kind_by m all (literal_has {n = r} {c = c} x) h n p v within thing is =
       let parts = same_fact is in
@@ -310,7 +342,8 @@ module _ (S : Source) (known : IsKnown S.checked) (inputs : AreInputs S.checked 
       let c = arm_chosen chooses in
       subst (OfKind n) parts.1 (one_row n r _ w c.stands refl within thing parts.0
       (as_row w r a c.kind_is (all.kinds_of a _ w c.within c.thing h.1.1.0)))
-  kind_by m all (argument_has {n = r} {e = e} {b = body} {m = l} {i = i} {v = a} {q = q} {u = w} x y bound def param) h n p v within thing is =
+  kind_by m all (argument_has {n = r} {e = e} {b = body} {m = l} {i = i} {v = a} {q = q} {u = w} x y bound def param) h
+      n p v within thing is =
       let parts = same_fact is in
       let c = enter_at known x.within x.node in
       let inner = operand_of l a y.within (subst (λ z. HasOperand z a) (sym y.node) refl) in
@@ -318,13 +351,16 @@ module _ (S : Source) (known : IsKnown S.checked) (inputs : AreInputs S.checked 
       let head = called_is known c.within c.node bound def in
       let to : param_of P e i ≡ q = some_is (sym goes.0 ∙ ap (λ z. slice_get (params_at (rows P) z) i) head ∙ param) in
       let there = a_param (rows P) _ (length (rows P)) q (Among-from_at q (params_at (rows P) _) i param) in
-      subst (OfKind n) parts.1 (one_row n q _ w (record { within = there.within; node = refl }) (param_thing there.param) within thing parts.0
+      subst (OfKind n) parts.1
+      (one_row n q _ w (record { within = there.within; node = refl }) (param_thing there.param) within thing parts.0
       (as_row w q a (ap (kind P) (sym to) ∙ sym goes.1) (all.kinds_of a _ w inner.0 inner.1 h.1.0)))
-  kind_by m all (call_has {n = r} {e = e} {c = count} {d = f} {x = y} {h = g} {b = body} {k = k} {u = w} x bound def) h n p v within thing is =
+  kind_by m all (call_has {n = r} {e = e} {c = count} {d = f} {x = y} {h = g} {b = body} {k = k} {u = w} x bound def) h
+      n p v within thing is =
       let parts = same_fact is in
       let c = enter_at known x.within x.node in
       let head = called_is known c.within c.node bound def in
-      let here : IsDefOf (rows P) f g = record { name = y; result = k; body = body; within = def.within; node = def.node } in
+      let here : IsDefOf (rows P) f g =
+      record { name = y; result = k; body = body; within = def.within; node = def.node } in
       let inner = operand_of f body def.within (subst (λ z. HasOperand z body) (sym def.node) refl) in
       let result = known.result_kind f g here in
       subst (OfKind n) parts.1 (one_row n r _ w x refl within thing parts.0
@@ -357,10 +393,14 @@ module _ (S : Source) (known : IsKnown S.checked) (inputs : AreInputs S.checked 
       (as_row w r a (loop_row P r g u a x) (all.kinds_of a _ w inner.0 inner.1 h.0)))
   kind_by m all (index_begins {x = i} {lo = lo} x below) h n p v within thing is =
       let parts = same_fact is in
-      subst (OfKind n) parts.1 (one_row n i _ (source.Int lo) x.index refl within thing parts.0 (kind_fixed P i (Index x.name) kinds.Int x.index refl))
+      subst (OfKind n) parts.1
+      (one_row n i _ (source.Int lo) x.index refl within thing parts.0
+      (kind_fixed P i (Index x.name) kinds.Int x.index refl))
   kind_by m all (index_counts {x = i} {i = number} q k x below) h n p v within thing is =
       let parts = same_fact is in
-      subst (OfKind n) parts.1 (one_row n i _ (source.Int (number +ℤ pos 1)) x.index refl within thing parts.0 (kind_fixed P i (Index x.name) kinds.Int x.index refl))
+      subst (OfKind n) parts.1
+      (one_row n i _ (source.Int (number +ℤ pos 1)) x.index refl within thing parts.0
+      (kind_fixed P i (Index x.name) kinds.Int x.index refl))
   kind_by m all (block_has {n = r} {b = b} {v = w} x) h n p v within thing is =
       let parts = same_fact is in
       let inner = operand_of r b x.within (subst (λ z. HasOperand z b) (sym x.node) refl) in
@@ -430,12 +470,14 @@ module _ (S : Source) (known : IsKnown S.checked) (inputs : AreInputs S.checked 
         index = i;
         stands = y;
         place = ap ask_place is;
-        names = subst (λ z. IsArrayAt P z (kind P t)) name_is (all.kinds_of t _ (source.Name s) target.0 target.1 h.1.0);
+        names = subst (λ z. IsArrayAt P z (kind P t)) name_is
+            (all.kinds_of t _ (source.Name s) target.0 target.1 h.1.0);
       }
   ask_by m all _ h x is = absurd (no_ask refl is)
 
   early : (m : ℕ) → Early m
-  early zero = record { kinds_of = λ n p v within thing h. absurd h; puts_of = λ x h. absurd h; asks_of = λ x h. absurd h }
+  early zero =
+      record { kinds_of = λ n p v within thing h. absurd h; puts_of = λ x h. absurd h; asks_of = λ x h. absurd h }
   early (suc m) = (
       let all = early m in
       record {
@@ -455,11 +497,11 @@ module _ (S : Source) (known : IsKnown S.checked) (inputs : AreInputs S.checked 
       )
 
   -- what a thing Has is of its kind
-  pub Has_kind : (n : ℕ) (p : Path) (v : SourceValue) → n < length (rows P) → is_thing (node P n) ≡ true → Holds S (Has p (place P n) v)
-      → IsOfKind P v (kind P n)
+  pub Has_kind : (n : ℕ) (p : Path) (v : SourceValue) → n < length (rows P) → is_thing (node P n) ≡ true
+      → Holds S (Has p (place P n) v) → IsOfKind P v (kind P n)
   Has_kind n p v within thing h = (early h.round).kinds_of n p v within thing h.there
 
   -- so the ports for values of its kind take it
-  pub port_taking : (n : ℕ) (p : Path) (v : SourceValue) → n < length (rows P) → is_thing (node P n) ≡ true → Holds S (Has p (place P n) v)
-      → Takes P v (port_at P n)
+  pub port_taking : (n : ℕ) (p : Path) (v : SourceValue) → n < length (rows P) → is_thing (node P n) ≡ true
+      → Holds S (Has p (place P n) v) → Takes P v (port_at P n)
   port_taking n p v within thing h = takes_of_kind P v (kind P n) (Has_kind n p v within thing h)

@@ -1,5 +1,6 @@
 -- Lemmas on counts over lists: at least one, and at most one.
-use Rattle.std.proofs.Common.{◌≡◌, ℕ, zero, suc, ◌≤◌, Bool, true, false, ◌||◌, cond, Some, List, [], ◌∷◌, slice_get, inl, inr, refl, sym, ap, subst, ◌∙◌, arith}
+use Rattle.std.proofs.Common.{◌≡◌, ℕ, zero, suc, ◌≤◌, Bool, true, false, ◌||◌, cond, Some, List, [], ◌∷◌, slice_get}
+use Rattle.std.proofs.Common.{inl, inr, refl, sym, ap, subst, ◌∙◌, arith}
 use Rattle.std.specs.List.{list_any, sum_by, count_by, All}
 use Rattle.std.proofs.lemmas.List.Sums.{sum_by-cons}
 use Rattle.std.proofs.lemmas.Option.{slice_get-get_or}
@@ -20,7 +21,8 @@ pub among_any : {X : Type 0} (p : X → Bool) (xs : List X) → list_any p xs �
 among_any p [] e = cc
 among_any {X} p (y ∷ xs) e = go (p y) refl e (among_any p xs)
   where
-    go : (b : Bool) → p y ≡ b → (b || list_any p xs) ≡ true → (list_any p xs ≡ true → (x : X) × Among x xs × (p x ≡ true))
+    go : (b : Bool) → p y ≡ b → (b || list_any p xs) ≡ true
+        → (list_any p xs ≡ true → (x : X) × Among x xs × (p x ≡ true))
         → (x : X) × Among x (y ∷ xs) × (p x ≡ true)
     go true f e rest = (y, inl refl, f)
     go false f e rest = let t = rest e in (t.0, inr t.1, t.2)
@@ -51,16 +53,20 @@ sum_some f [] h = absurd (omega arith)
 sum_some f (y ∷ xs) h = go (f y) refl (sum_some f xs)
   where
     go : (k : ℕ) → f y ≡ k → (1 ≤ sum_by f xs → IsTerm f xs) → IsTerm f (y ∷ xs)
-    go zero e rest = let t = rest (omega (arith, sum_by-cons f y xs)) in record { index = suc t.index; item = t.item; at = t.at; some = t.some }
+    go zero e rest =
+        let t = rest (omega (arith, sum_by-cons f y xs)) in
+        record { index = suc t.index; item = t.item; at = t.at; some = t.some }
     go (suc k) e rest = record { index = 0; item = y; at = refl; some = omega arith }
 
 -- where no term is above 1, and no two are not 0, the sum is at most 1
 pub sum_once : {X : Type 0} (f : X → ℕ) (xs : List X) → ((n : ℕ) (x : X) → slice_get xs n ≡ Some x → f x ≤ 1)
-    → ((n m : ℕ) (x y : X) → slice_get xs n ≡ Some x → slice_get xs m ≡ Some y → 1 ≤ f x → 1 ≤ f y → n ≡ m) → sum_by f xs ≤ 1
+    → ((n m : ℕ) (x y : X) → slice_get xs n ≡ Some x → slice_get xs m ≡ Some y → 1 ≤ f x → 1 ≤ f y → n ≡ m)
+    → sum_by f xs ≤ 1
 sum_once f [] few apart = omega arith
 sum_once f (x ∷ xs) few apart =
     go (f x) (sum_by f xs) refl refl (few 0 x refl)
-    (sum_once f xs (λ n y e. few (suc n) y e) (λ n m y z e d i j. (let s : suc n ≡ suc m = apart (suc n) (suc m) y z e d i j in omega arith)))
+    (sum_once f xs (λ n y e. few (suc n) y e) (λ n m y z e d i j. (let s : suc n ≡ suc m =
+    apart (suc n) (suc m) y z e d i j in omega arith)))
   where
     go : (k s : ℕ) → f x ≡ k → sum_by f xs ≡ s → k ≤ 1 → s ≤ 1 → sum_by f (x ∷ xs) ≤ 1
     go zero s e d a b = omega (arith, sum_by-cons f x xs)
@@ -71,11 +77,14 @@ sum_once f (x ∷ xs) few apart =
         absurd (omega arith)
 
 -- in a list where all differ, one thing has one place
-pub differ_at : {X : Type 0} (xs : List X) (n m : ℕ) (x : X) → AllDiffer xs → slice_get xs n ≡ Some x → slice_get xs m ≡ Some x → n ≡ m
+pub differ_at : {X : Type 0} (xs : List X) (n m : ℕ) (x : X) → AllDiffer xs → slice_get xs n ≡ Some x
+    → slice_get xs m ≡ Some x → n ≡ m
 differ_at [] n m x d a b = cc
 differ_at (y ∷ xs) zero zero x d a b = refl
-differ_at (y ∷ xs) zero (suc m) x d a b = let is : x ≡ y = cc in absurd (d.0 (subst (λ z. Among z xs) is (Among-from_at x xs m b)))
-differ_at (y ∷ xs) (suc n) zero x d a b = let is : x ≡ y = cc in absurd (d.0 (subst (λ z. Among z xs) is (Among-from_at x xs n a)))
+differ_at (y ∷ xs) zero (suc m) x d a b =
+    let is : x ≡ y = cc in absurd (d.0 (subst (λ z. Among z xs) is (Among-from_at x xs m b)))
+differ_at (y ∷ xs) (suc n) zero x d a b =
+    let is : x ≡ y = cc in absurd (d.0 (subst (λ z. Among z xs) is (Among-from_at x xs n a)))
 differ_at (y ∷ xs) (suc n) (suc m) x d a b = ap suc (differ_at xs n m x d.1 a b)
 
 counted : (b : Bool) → 1 ≤ cond b 1 0 → b ≡ true
@@ -99,7 +108,9 @@ count_some p xs h =
     (t.item, Among-from_at t.item xs t.index t.at, counted (p t.item) t.some)
 
 -- where all differ and those that pass are one, at most one passes
-pub count_once : {X : Type 0} (p : X → Bool) (xs : List X) → AllDiffer xs → ((x y : X) → p x ≡ true → p y ≡ true → x ≡ y) → count_by p xs ≤ 1
+pub count_once : {X : Type 0} (p : X → Bool) (xs : List X) → AllDiffer xs
+    → ((x y : X) → p x ≡ true → p y ≡ true → x ≡ y) → count_by p xs ≤ 1
 count_once p xs differ one =
     sum_once (λ y. cond (p y) 1 0) xs (λ n x e. small (p x))
-    (λ n m x y a b i j. differ_at xs n m y differ (a ∙ ap (λ z. Some z) (one x y (counted (p x) i) (counted (p y) j))) b)
+    (λ n m x y a b i j. differ_at xs n m y differ (a ∙ ap (λ z. Some z) (one x y (counted (p x) i) (counted (p y) j)))
+    b)

@@ -1,5 +1,6 @@
 -- What an arc brings is of the kind that its port takes.
-use Rattle.std.proofs.Common.{◌≡◌, inl, inr, ℕ, zero, suc, ◌<◌, ◌≤◌, ◌+◌, ◌-◌, true, Some, List, ◌∷◌, ◌++◌, [], map, length, get_or, refl, sym, ◌∙◌, ap, subst, arith}
+use Rattle.std.proofs.Common.{◌≡◌, inl, inr, ℕ, zero, suc, ◌<◌, ◌≤◌, ◌+◌, ◌-◌, true, Some, List, ◌∷◌, ◌++◌, [], map}
+use Rattle.std.proofs.Common.{length, get_or, refl, sym, ◌∙◌, ap, subst, arith}
 use Rattle.id_value.specs.List.{Among}
 use Rattle.id_value.proofs.AmongLemmas.{Among-either, Among-from_map}
 use Rattle.id_value.specs.declared.Kind.{Kind}
@@ -33,13 +34,16 @@ use Rattle.id_laws.specs.Topics.{Addresses, of_fetch, of_store}
 use Rattle.id_laws.proofs.Rows.Stores.{address_at}
 use Rattle.id_laws.proofs.Rows.Arcs.{Does, starts, returns, constant, unary, binary, turns_on, hands, joins, names, fed}
 use Rattle.id_laws.proofs.Rows.Arcs.{sends_in, gives_back, varies, takes_in, moves_on, moves_name, advances, resets}
-use Rattle.id_laws.proofs.Rows.Arcs.{allocates, addresses, fetches, stores, entered_at, bounds_meet, begins_index, carries}
+use Rattle.id_laws.proofs.Rows.Arcs.{allocates, addresses, fetches, stores, entered_at, bounds_meet, begins_index}
+use Rattle.id_laws.proofs.Rows.Arcs.{carries}
 use Rattle.id_laws.proofs.Rows.Arcs.{meets_bound, goes_further, hands_index, has_one, adds_one, turned, carries_on}
 use Rattle.id_laws.proofs.Rows.Arcs.{behind_turned, carried_at, three_carried, three_turned, to_carried_context}
 use Rattle.id_laws.proofs.Rows.Arcs.{to_first_index, to_first_bound, to_first_flag, to_next_index, to_next_bound}
-use Rattle.id_laws.proofs.Rows.Arcs.{to_next_flag, to_lower, to_upper, to_first_test, to_first, to_carried, to_index_now}
+use Rattle.id_laws.proofs.Rows.Arcs.{to_next_flag, to_lower, to_upper, to_first_test, to_first, to_carried}
+use Rattle.id_laws.proofs.Rows.Arcs.{to_index_now}
 use Rattle.id_laws.proofs.Rows.Arcs.{to_bound, to_further_test, to_further, to_last_test, to_last, to_one, to_add}
-use Rattle.id_laws.proofs.Rows.Arcs.{to_add_one, Arc, to_back, to_literal, to_unary, to_left, to_right, to_test, to_trigger}
+use Rattle.id_laws.proofs.Rows.Arcs.{to_add_one, Arc, to_back, to_literal, to_unary, to_left, to_right, to_test}
+use Rattle.id_laws.proofs.Rows.Arcs.{to_trigger}
 use Rattle.id_laws.proofs.Rows.Arcs.{to_import_test, to_import, to_then, to_else, to_label, opens, passes, to_enter}
 use Rattle.id_laws.proofs.Rows.Arcs.{to_context, to_argument, to_loop_context, to_entering, to_head, to_loop_back}
 use Rattle.id_laws.proofs.Rows.Arcs.{to_variable, to_entry, to_turn, to_turn_name, to_next, to_reset, to_low, to_high}
@@ -47,19 +51,23 @@ use Rattle.id_laws.proofs.Rows.Arcs.{to_target, to_index, to_fetch, to_store, to
 use Rattle.id_build.proofs.EndsLemmas.{end_is, HeadOf, of_procedure, of_arm, region_of, turn_low}
 use Rattle.std.proofs.lemmas.Bool.{cases_lt}
 use Rattle.id_build.proofs.EndsLemmas as ends
-use Rattle.id_build.proofs.LoopsLemmas.{carried_nodes, switches_high, switches_low, turn_nodes, the_loop, next_is, reset_is, start_head, turn_block, turn_is}
+use Rattle.id_build.proofs.LoopsLemmas.{carried_nodes, switches_high, switches_low, turn_nodes, the_loop, next_is}
+use Rattle.id_build.proofs.LoopsLemmas.{reset_is, start_head, turn_block, turn_is}
 use Rattle.id_build.proofs.ImportsLemmas.{split_seen, switches_seen, first_seen, loop_seen, turn_seen, upper_seen}
 use Rattle.id_build.proofs.RowLemmas.{IsSeen}
 use Rattle.id_laws.proofs.Rows.Assumed.{IsKnown}
-use Rattle.id_laws.proofs.Rows.Loops.{LoopKind, plain as by_predicate, counted as with_index, counted_of, has_three, kind_of}
+use Rattle.id_laws.proofs.Rows.Loops.{LoopKind, plain as by_predicate, counted as with_index, counted_of, has_three}
+use Rattle.id_laws.proofs.Rows.Loops.{kind_of}
 use Rattle.id_laws.proofs.Rows.Speakers.{within_origin}
 use Rattle.id_build.proofs.NamesSeen.{listed}
-use Rattle.id_laws.proofs.Rows.LoopRows.{carried_row, carried_rows, entered_as, entering_binds, handed_at, handed_binder}
+use Rattle.id_laws.proofs.Rows.LoopRows.{carried_row, carried_rows, entered_as, entering_binds, handed_at}
+use Rattle.id_laws.proofs.Rows.LoopRows.{handed_binder}
 use Rattle.id_laws.proofs.Rows.LoopRows.{handed_carried, import_binds}
 use Rattle.id_laws.proofs.Validity.WantedKinds.{operands_of}
 use Rattle.id_build.specs.declared.arc.Form.{Form}
 use Rattle.id_laws.proofs.Rows.Calls.{arg_at}
-use Rattle.id_laws.proofs.Validity.ValidPorts.{SentBy, Operand, Sender, sender, named_sender, operand, cell_at, port_is, same_ports, unary_port}
+use Rattle.id_laws.proofs.Validity.ValidPorts.{SentBy, Operand, Sender, sender, named_sender, operand, cell_at, port_is}
+use Rattle.id_laws.proofs.Validity.ValidPorts.{same_ports, unary_port}
 
 -- the part of the row n takes this kind at the port
 pub record Taker (P : Checked) (n part : ℕ) (p : Port) (k : PortKind) : Type 0 where
@@ -83,8 +91,10 @@ module _ (P : Checked) (known : IsKnown P) where
   trigger_sender n within other = let r = region_of P (known.table) n within other in by (region P n) r.below r.head
     where
       by : (r : Region) → r.head < length R → HeadOf P (known.table) r → SentBy P Signal (trigger_of r)
-      by r below (of_procedure is top_is) = record { within = below; form = _; does = starts (ap begins_block is); out = λ f. refl }
-      by r below (ends.of_loop is top_is) = record { within = below; form = _; does = starts (ap begins_block is); out = λ f. refl }
+      by r below (of_procedure is top_is) =
+          record { within = below; form = _; does = starts (ap begins_block is); out = λ f. refl }
+      by r below (ends.of_loop is top_is) =
+          record { within = below; form = _; does = starts (ap begins_block is); out = λ f. refl }
       by r below (of_arm is) = record { within = below; form = _; does = turns_on (of_arms is); out = λ f. refl }
       by r below (ends.of_side is) = record { within = below; form = _; does = turns_on (of_turns is); out = λ f. refl }
 
@@ -93,7 +103,9 @@ module _ (P : Checked) (known : IsKnown P) where
       let def = end_is P (known.table) n within is in
       let b = body_of (node P (end_of P n)) in
       let body_is : b ≡ def.body = ap body_of def.node in
-      let parts = (((known.table).formed).each (end_of P n) def.within).parts def.body (subst (λ z. HasPart z def.body) (sym def.node) (inr refl)) in
+      let parts =
+      (((known.table).formed).each (end_of P n) def.within).parts def.body
+      (subst (λ z. HasPart z def.body) (sym def.node) (inr refl)) in
       let expression = ((known.table).head_is (end_of P n) def.name n def.body def.result def.within def.node).2 in
       let x : Operand P b = subst (Operand P) (sym body_is) (omega (arith, def.within, parts.1), expression) in
       let of_kind : kind P b ≡ Some def.result = ap (kind P) body_is ∙ known.result_kind (end_of P n) n def in
@@ -104,14 +116,17 @@ module _ (P : Checked) (known : IsKnown P) where
           within = within;
           form = _;
           does = returns is;
-          into = λ f. ap (λ k. Some (port_of k)) (ap result_of def.node) ∙ ap (λ k. Some k) (sym (port_is P b def.result of_kind));
+          into = λ f. ap (λ k. Some (port_of k)) (ap result_of def.node)
+              ∙ ap (λ k. Some k) (sym (port_is P b def.result of_kind));
         };
       }
 
   -- the parts that name a cell
   cell_operands : (n t i : ℕ) → n < length R → Addresses P n t i → Operand P t × Operand P i
-  cell_operands n t i within (of_fetch is) = (operand P known n t (Fetch t i) within is (inl refl), operand P known n i (Fetch t i) within is (inr refl))
-  cell_operands n t i within (of_store is) = (operand P known n t (Address t i) within is (inl refl), operand P known n i (Address t i) within is (inr refl))
+  cell_operands n t i within (of_fetch is) =
+      (operand P known n t (Fetch t i) within is (inl refl), operand P known n i (Fetch t i) within is (inr refl))
+  cell_operands n t i within (of_store is) =
+      (operand P known n t (Address t i) within is (inl refl), operand P known n i (Address t i) within is (inr refl))
 
   test_kind : (n t : ℕ) → n < length R → Tests P n t → kind P t ≡ Some kinds.Bool
   test_kind n t within (of_arms is) = split_row P n t (record { within = within; node = is })
@@ -125,9 +140,12 @@ module _ (P : Checked) (known : IsKnown P) where
       by (kind_of P ((known.table).loop_is z.0 (block P n) z.1)) z.1 z.2
     where
       less : t < length R
-      less = let part = (((known.table).formed).each n within).parts t (subst (λ m. HasPart m t) (sym is) refl) in omega (arith, within, part.1)
+      less = let part =
+          (((known.table).formed).each n within).parts t (subst (λ m. HasPart m t) (sym is) refl) in
+          omega (arith, within, part.1)
 
-      by : {q h w l : ℕ} {x : IsLoop R q h w l} → LoopKind P x → (c : IsLoopOf R q h) → w ≡ n → SentBy P (port_at P t) (origin P t)
+      by : {q h w l : ℕ} {x : IsLoop R q h w l} → LoopKind P x → (c : IsLoopOf R q h) → w ≡ n
+          → SentBy P (port_at P t) (origin P t)
       by {x = x} (by_predicate none expression turn first) c same =
           let both : Switches t ≡ Switches (x.test).test = sym is ∙ ap (node P) (sym same) ∙ (x.test).node in
           let one : (x.test).test ≡ t = cc in
@@ -136,8 +154,10 @@ module _ (P : Checked) (known : IsKnown P) where
           let both : Switches t ≡ Switches (x.test).test = sym is ∙ ap (node P) (sym same) ∙ (x.test).node in
           let one : (x.test).test ≡ t = cc in
           let flag = carried_row P (h + 3) kinds.Bool k.flag in
-          let port : port_at P (h + 3) ≡ port_at P t = same_ports P (h + 3) t (flag.kind ∙ sym (test_kind n t within (of_turns is))) in
-          subst (SentBy P (port_at P t)) (sym (within_origin P known t (h + 3) less (ap (node P) (sym one) ∙ k.test) k.flag))
+          let port : port_at P (h + 3) ≡ port_at P t =
+          same_ports P (h + 3) t (flag.kind ∙ sym (test_kind n t within (of_turns is))) in
+          subst (SentBy P (port_at P t))
+          (sym (within_origin P known t (h + 3) less (ap (node P) (sym one) ∙ k.test) k.flag))
           (record { within = flag.within; form = _; does = flag.does; out = λ f. ap (λ j. Some j) port })
 
   test_port : (n t : ℕ) → n < length R → Tests P n t → Some TruthPort ≡ Some (port_at P t)
@@ -184,22 +204,30 @@ module _ (P : Checked) (known : IsKnown P) where
       let name = behind_get (carried P h) (entering P h) k in
       record {
         kind = port_at P b;
-        source = named_sender P known (region P n) b (handed_binder P b (entering_binds P h n b head.1 among)) (seen_at_start n b within is among);
+        source = named_sender P known (region P n) b (handed_binder P b (entering_binds P h n b head.1 among))
+            (seen_at_start n b within is among);
         target = record {
           within = within;
           form = _;
           does = sends_in (carries_on P h + k) q.0 is q.1;
-          into = λ f. ap (λ z. Some z) (same_ports P (q.0).binder b (sym (entered_as P h (carries_on P h + k) q.0 q.1).kind ∙ ap (kind P) name));
+          into = λ f. ap (λ z. Some z)
+              (same_ports P (q.0).binder b (sym (entered_as P h (carries_on P h + k) q.0 q.1).kind ∙ ap (kind P) name));
         };
       }
 
   -- what goes to the entries of what it carries on
-  begin_typed : (n k : ℕ) (s : Origin) (o : PortKind) → n < length R → node P n ≡ Start → has_index P (n + 1) ≡ true → k < 3 → SentBy P o s
-      → port_at P (get_or (carried P (n + 1)) k 0) ≡ o → Typed P s n (suc k) One
+  begin_typed : (n k : ℕ) (s : Origin) (o : PortKind) → n < length R → node P n ≡ Start → has_index P (n + 1) ≡ true
+      → k < 3 → SentBy P o s → port_at P (get_or (carried P (n + 1)) k 0) ≡ o → Typed P s n (suc k) One
   begin_typed n k s o within is has less source port = record {
     kind = o;
     source = source;
-    target = record { within = within; form = _; does = sends_in k _ is (carried_at P (n + 1) k has less); into = λ f. ap (λ z. Some z) port };
+    target = record {
+      within = within;
+      form = _;
+      does = sends_in k _ is (carried_at P (n + 1) k has less);
+      into =
+          λ f. ap (λ z. Some z) port;
+    };
   }
 
   -- the kinds of what a loop carries on
@@ -240,8 +268,8 @@ module _ (P : Checked) (known : IsKnown P) where
       record { row = q; loop = c; below = omega (arith, low, high, c.within); head = (x.before_test).head }
 
   -- what hands on what is carried on
-  hands_typed : (n k : ℕ) (s : Origin) (o : PortKind) → n < length R → node P n ≡ Turn → has_index P (block P n) ≡ true → k < 3 → SentBy P o s
-      → port_at P (get_or (carried P (block P n)) k 0) ≡ o → Typed P s n (suc k) Zero
+  hands_typed : (n k : ℕ) (s : Origin) (o : PortKind) → n < length R → node P n ≡ Turn → has_index P (block P n) ≡ true
+      → k < 3 → SentBy P o s → port_at P (get_or (carried P (block P n)) k 0) ≡ o → Typed P s n (suc k) Zero
   hands_typed n k s o within is has less source port =
       let h = block P n in
       let few : k < length (carried P h) = subst (λ bs. k < length bs) (sym (three_carried P h has)) less in
@@ -252,7 +280,8 @@ module _ (P : Checked) (known : IsKnown P) where
           within = within;
           form = _;
           does = moves_name k is (three_turned P h has k less);
-          into = λ f. ap (λ b. Some (port_at P b)) (before_get (carried P h) (imports_of P h) k few) ∙ ap (λ z. Some z) port;
+          into = λ f. ap (λ b. Some (port_at P b)) (before_get (carried P h) (imports_of P h) k few)
+              ∙ ap (λ z. Some z) port;
         };
       }
     where
@@ -262,7 +291,8 @@ module _ (P : Checked) (known : IsKnown P) where
       before_get (c ∷ cs) bs (suc j) l = before_get cs bs j (omega (arith, l))
 
   turn_ports : (n : ℕ) → n < length R → node P n ≡ Turn → has_index P (block P n) ≡ true
-      → (port_at P (get_or (carried P (block P n)) 0 0) ≡ IntPort) × (port_at P (get_or (carried P (block P n)) 1 0) ≡ IntPort)
+      → (port_at P (get_or (carried P (block P n)) 0 0) ≡ IntPort)
+      × (port_at P (get_or (carried P (block P n)) 1 0) ≡ IntPort)
       × (port_at P (get_or (carried P (block P n)) 2 0) ≡ TruthPort)
   turn_ports n within is has =
       let h = block P n in
@@ -275,7 +305,8 @@ module _ (P : Checked) (known : IsKnown P) where
       )
 
   -- what counts stands before what hands on
-  count_before : (n : ℕ) → n < length R → node P n ≡ Turn → has_index P (block P n) ≡ true → (n - 1 < length R) × (node P (n - 1) ≡ Count)
+  count_before : (n : ℕ) → n < length R → node P n ≡ Turn → has_index P (block P n) ≡ true
+      → (n - 1 < length R) × (node P (n - 1) ≡ Count)
   count_before n within is has =
       let z = (known.table).turn_of n within is in
       let x = (known.table).loop_is z.0 (block P n) z.1 in
@@ -288,8 +319,9 @@ module _ (P : Checked) (known : IsKnown P) where
   bounds_before n within = omega (arith, within)
 
   -- the upper bound is seen in the body
-  bound_sender : {q : ℕ} (n : ℕ) → n < length R → (c : IsLoopOf R q (block P n)) → ((known.table).loop_is q (block P n) c).carried ≡ 3
-      → region P n ≡ arm_at c.switches true → SentBy P IntPort (name_in P (region P n) (block P n + 2))
+  bound_sender : {q : ℕ} (n : ℕ) → n < length R → (c : IsLoopOf R q (block P n))
+      → ((known.table).loop_is q (block P n) c).carried ≡ 3 → region P n ≡ arm_at c.switches true
+      → SentBy P IntPort (name_in P (region P n) (block P n + 2))
   bound_sender {q} n within c three right =
       let h = block P n in
       let x = (known.table).loop_is q h c in
@@ -297,7 +329,8 @@ module _ (P : Checked) (known : IsKnown P) where
       let z = carried_nodes (x.before_test).carried three in
       let port = port_is P (h + 2) kinds.Int (carried_row P (h + 2) kinds.Int z.1).kind in
       subst (λ o. SentBy P o (name_in P (region P n) (h + 2))) port
-      (named_sender P known (region P n) (h + 2) (handed_carried P (h + 2) kinds.Int z.1) (upper_seen P q h n c x three right))
+      (named_sender P known (region P n) (h + 2) (handed_carried P (h + 2) kinds.Int z.1)
+      (upper_seen P q h n c x three right))
 
   -- what hands imports on goes to their entries
   entry_typed : (n k : ℕ) → n < length R → node P n ≡ Entries → k < length (imports_of P (block P n))
@@ -306,7 +339,8 @@ module _ (P : Checked) (known : IsKnown P) where
       let h = block P n in
       let i = inside ((known.table).entries_of n within is).1 in
       let t = turn_block P h _ i.below i.head in
-      let few : carries_on P h + k < length (turned P (block P (turn_row P h))) = subst (λ g. carries_on P h + k < length (turned P g)) (sym t.1)
+      let few : carries_on P h + k < length (turned P (block P (turn_row P h))) =
+      subst (λ g. carries_on P h + k < length (turned P g)) (sym t.1)
       (behind_turned P h k less) in
       record {
         kind = port_at P (get_or (imports_of P h) k 0);
@@ -321,7 +355,8 @@ module _ (P : Checked) (known : IsKnown P) where
       }
 
   -- and what hands on what is carried on to their entries
-  carried_typed : {k : Kind} (n : ℕ) → n < length R → node P n ≡ Carried k → Typed P (part_of (turn_row P (block P n)) (n - block P n)) n 0 Zero
+  carried_typed : {k : Kind} (n : ℕ) → n < length R → node P n ≡ Carried k
+      → Typed P (part_of (turn_row P (block P n)) (n - block P n)) n 0 Zero
   carried_typed {k} n within is =
       let z = (known.table).carried_of n within (ap is_carried is) in
       let i = inside {n = n} z.1 in
@@ -332,8 +367,10 @@ module _ (P : Checked) (known : IsKnown P) where
       let slot = n - h - 1 in
       let at : suc slot ≡ n - h = omega (arith, above) in
       let few : slot < 3 = omega (arith, above, z.3) in
-      let there : slot < length (turned P (block P (turn_row P h))) = subst (λ g. slot < length (turned P g)) (sym t.1) (three_turned P h has slot few) in
-      let name : get_or (turned P h) slot 0 ≡ n = carried_get has slot few ∙ (let e : h + 1 + slot ≡ n = omega (arith, above) in e) in
+      let there : slot < length (turned P (block P (turn_row P h))) =
+      subst (λ g. slot < length (turned P g)) (sym t.1) (three_turned P h has slot few) in
+      let name : get_or (turned P h) slot 0 ≡ n =
+      carried_get has slot few ∙ (let e : h + 1 + slot ≡ n = omega (arith, above) in e) in
       let here : port_of k ≡ port_at P n = sym (port_is P n k (carried_row P n k is).kind) in
       subst (λ j. Typed P (part_of (turn_row P h) j) n 0 Zero) at
       (record {
@@ -376,7 +413,13 @@ module _ (P : Checked) (known : IsKnown P) where
       let z = (known.table).count_of n within is in
       let x = (known.table).loop_is z.0 (block P n) z.1 in
       let c = carried_row P (block P n + 1) kinds.Int (carried_nodes (x.before_test).carried z.2).0 in
-      record { within = c.within; form = _; does = c.does; out = λ f. ap (λ k. Some k) (port_is P (block P n + 1) kinds.Int c.kind) }
+      record {
+        within = c.within;
+        form = _;
+        does = c.does;
+        out =
+            λ f. ap (λ k. Some k) (port_is P (block P n + 1) kinds.Int c.kind);
+      }
 
   by_arc : {n part : ℕ} {p : Port} {s : Origin} → n < length R → Arc P n part p s → Typed P s n part p
   by_arc {n} within (to_back is) = returned n within is
@@ -392,7 +435,8 @@ module _ (P : Checked) (known : IsKnown P) where
       within = within;
       form = _;
       does = unary is;
-      into = λ f. ap (λ k. Some k) (unary_port o ∙ sym (port_is P a (unary_kind o) (unary_row P n a o (record { within = within; node = is }))));
+      into = λ f. ap (λ k. Some k) (unary_port o
+          ∙ sym (port_is P a (unary_kind o) (unary_row P n a o (record { within = within; node = is }))));
     };
   }
   by_arc {n} within (to_left {o = o} {a = a} {b = b} is) =
@@ -417,7 +461,8 @@ module _ (P : Checked) (known : IsKnown P) where
           within = within;
           form = _;
           does = binary is;
-          into = λ f. ap (λ k. Some k) (ap (λ k. operand_kind (binary_op o k)) (port_is P a s.kind_of s.left) ∙ s.taken ∙ sym (port_is P b s.kind_of s.right));
+          into = λ f. ap (λ k. Some k) (ap (λ k. operand_kind (binary_op o k)) (port_is P a s.kind_of s.left) ∙ s.taken
+              ∙ sym (port_is P b s.kind_of s.right));
         };
       }
   by_arc {n} within (to_test {t = t} is) = record {
@@ -440,18 +485,31 @@ module _ (P : Checked) (known : IsKnown P) where
       let among = listed (imports_of P n) k less in
       record {
         kind = port_at P b;
-        source = named_sender P known (region P n) b (handed_at P n t b within is among) (import_at_switches n t b within is among);
+        source = named_sender P known (region P n) b (handed_at P n t b within is among)
+            (import_at_switches n t b within is among);
         target = record { within = within; form = _; does = hands k is less; into = λ f. refl };
       }
   by_arc {n} within (to_then {s = s} {x = x} {y = y} is) = record {
     kind = port_at P x;
     source = sender P known x (operand P known n x (If s x y) within is (inl refl));
-    target = record { within = within; form = _; does = joins is; into = λ f. ap (λ k. Some k) (same_ports P n x (known.arm_kinds n s x y within is).0) };
+    target = record {
+      within = within;
+      form = _;
+      does = joins is;
+      into =
+          λ f. ap (λ k. Some k) (same_ports P n x (known.arm_kinds n s x y within is).0);
+    };
   }
   by_arc {n} within (to_else {s = s} {x = x} {y = y} is) = record {
     kind = port_at P y;
     source = sender P known y (operand P known n y (If s x y) within is (inr refl));
-    target = record { within = within; form = _; does = joins is; into = λ f. ap (λ k. Some k) (same_ports P n y (known.arm_kinds n s x y within is).1) };
+    target = record {
+      within = within;
+      form = _;
+      does = joins is;
+      into =
+          λ f. ap (λ k. Some k) (same_ports P n y (known.arm_kinds n s x y within is).1);
+    };
   }
   by_arc {n} within (to_enter is) = record {
     kind = Signal;
@@ -478,31 +536,52 @@ module _ (P : Checked) (known : IsKnown P) where
   by_arc {n} within (to_label {x = x} {a = a} is) = record {
     kind = port_at P a;
     source = sender P known a (operand P known n a (Binding x a) within is refl);
-    target = record { within = within; form = _; does = names is; into = λ f. ap (λ k. Some k) (same_ports P n a (known.binding_kind n x a within is)) };
+    target = record {
+      within = within;
+      form = _;
+      does = names is;
+      into =
+          λ f. ap (λ k. Some k) (same_ports P n a (known.binding_kind n x a within is));
+    };
   }
   by_arc {n} within (to_loop_context k is less) =
       let z = entered_at P (n + 1) k less in
       record {
         kind = Context;
         source = record { within = within; form = _; does = opens (of_loop is); out = λ f. refl };
-        target = record { within = within; form = _; does = sends_in (carries_on P (n + 1) + k) z.0 is z.1; into = λ f. refl };
+        target = record {
+          within = within;
+          form = _;
+          does = sends_in (carries_on P (n + 1) + k) z.0 is z.1;
+          into =
+              λ f. refl;
+        };
       }
   by_arc {n} within (to_carried_context k is at has less) = record {
     kind = Context;
     source = record { within = within; form = _; does = opens (of_loop is); out = λ f. refl };
-    target = record { within = within; form = _; does = sends_in k _ is (carried_at P (n + 1) k has less); into = λ f. refl };
+    target = record {
+      within = within;
+      form = _;
+      does = sends_in k _ is (carried_at P (n + 1) k has less);
+      into =
+          λ f. refl;
+    };
   }
   by_arc {n} within (to_first_index {a = a} {b = b} is at has) =
       begin_typed n 0 _ IntPort within is has (omega arith)
-      (record { within = bounds_before n within; form = _; does = begins_index at; out = λ f. refl }) (begin_ports n within is has).0
+      (record { within = bounds_before n within; form = _; does = begins_index at; out = λ f. refl })
+      (begin_ports n within is has).0
   by_arc {n} within (to_first_bound {a = a} {b = b} is at has) =
       let less = bounds_before n within in
       let port = port_is P b kinds.Int (known.range_kinds (n - 1) a b less at).1 in
       begin_typed n 1 _ IntPort within is has (omega arith)
-      (subst (λ o. SentBy P o (origin P b)) port (sender P known b (operand P known (n - 1) b (Bounds a b) less at (inr refl)))) (begin_ports n within is has).1
+      (subst (λ o. SentBy P o (origin P b)) port
+      (sender P known b (operand P known (n - 1) b (Bounds a b) less at (inr refl)))) (begin_ports n within is has).1
   by_arc {n} within (to_first_flag {a = a} {b = b} is at has) =
       begin_typed n 2 _ TruthPort within is has (omega arith)
-      (record { within = bounds_before n within; form = _; does = bounds_meet at; out = λ f. refl }) (begin_ports n within is has).2
+      (record { within = bounds_before n within; form = _; does = bounds_meet at; out = λ f. refl })
+      (begin_ports n within is has).2
   by_arc {n} within (to_entering k is less) = entering_typed n k within is less
   by_arc {n} within (to_head {s = s} is) =
       let t = turn_block P n s within is in
@@ -514,7 +593,9 @@ module _ (P : Checked) (known : IsKnown P) where
   by_arc {n} within (to_loop_back {s = s} is) =
       let c = the_loop P n s within is in
       let r = reset_is P n s within is in
-      let same = same_ports P (end_of P n) c.last (loop_row P (end_of P n) n c.switches c.last (record { within = c.within; node = c.node })) in
+      let same =
+      same_ports P (end_of P n) c.last
+      (loop_row P (end_of P n) n c.switches c.last (record { within = c.within; node = c.node })) in
       record {
         kind = port_at P c.last;
         source = record { within = r.0; form = _; does = resets r.1; out = λ f. refl };
@@ -540,7 +621,8 @@ module _ (P : Checked) (known : IsKnown P) where
       let i = inside ((known.table).turn_of n within is).1 in
       record {
         kind = port_at P b;
-        source = named_sender P known (region P n) b (handed_binder P b (import_binds P h (h - 1) b i.head among)) (turn_seen P n b within is among);
+        source = named_sender P known (region P n) b (handed_binder P b (import_binds P h (h - 1) b i.head among))
+            (turn_seen P n b within is among);
         target = record {
           within = within;
           form = _;
@@ -550,16 +632,28 @@ module _ (P : Checked) (known : IsKnown P) where
       }
   by_arc {n} within (to_next_index is has) =
       let c = count_before n within is has in
-      hands_typed n 0 _ IntPort within is has (omega arith) (record { within = c.0; form = _; does = adds_one c.1; out = λ f. refl })
+      hands_typed n 0 _ IntPort within is has (omega arith) (record {
+        within = c.0;
+        form = _;
+        does = adds_one c.1;
+        out =
+            λ f. refl;
+      })
       (turn_ports n within is has).0
   by_arc {n} within (to_next_bound is has) =
       let z = (known.table).turn_of n within is in
       let x = (known.table).loop_is z.0 (block P n) z.1 in
       let right = ap (region P) (sym z.2) ∙ ((x.body_is).begins x.turn (turn_low (x.body_is).turns) (omega arith)).1 in
-      hands_typed n 1 _ IntPort within is has (omega arith) (bound_sender n within z.1 (counted_of P x has).three right) (turn_ports n within is has).1
+      hands_typed n 1 _ IntPort within is has (omega arith) (bound_sender n within z.1 (counted_of P x has).three right)
+      (turn_ports n within is has).1
   by_arc {n} within (to_next_flag is has) =
       let c = count_before n within is has in
-      hands_typed n 2 _ TruthPort within is has (omega arith) (record { within = c.0; form = _; does = meets_bound c.1; out = λ f. refl })
+      hands_typed n 2 _ TruthPort within is has (omega arith) (record {
+        within = c.0;
+        form = _;
+        does = meets_bound c.1;
+        out = λ f. refl;
+      })
       (turn_ports n within is has).2
   by_arc {n} within (to_next {x = x} {k = k} {o = o} {v = v} is) = record {
     kind = port_at P v;
@@ -568,7 +662,8 @@ module _ (P : Checked) (known : IsKnown P) where
       within = within;
       form = _;
       does = advances is;
-      into = λ f. ap (λ q. Some q) (same_ports P n v (sym (next_row P n x k o v (record { within = within; node = is })).5));
+      into = λ f. ap (λ q. Some q)
+          (same_ports P n v (sym (next_row P n x k o v (record { within = within; node = is })).5));
     };
   }
   by_arc {n} within (to_reset {v = v} is) = record {
@@ -700,7 +795,13 @@ module _ (P : Checked) (known : IsKnown P) where
   by_arc {n} within (to_index {t = t} {i = i} is) = record {
     kind = port_at P i;
     source = sender P known i (cell_operands n t i within is).1;
-    target = record { within = within; form = _; does = addresses is; into = λ f. ap (λ k. Some k) (sym (cell_at P known n t i within is).index) };
+    target = record {
+      within = within;
+      form = _;
+      does = addresses is;
+      into =
+          λ f. ap (λ k. Some k) (sym (cell_at P known n t i within is).index);
+    };
   }
   by_arc {n} within (to_fetch is) = record {
     kind = address_kind (holds_array P n);

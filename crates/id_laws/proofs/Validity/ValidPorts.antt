@@ -1,5 +1,6 @@
 -- What gives the value of an expression sends the kind of its row.
-use Rattle.std.proofs.Common.{◌≡◌, ℕ, zero, suc, ◌<◌, Bool as Truth, true, false, Some, List, length, unwrap_or, get_or, refl, sym, ◌∙◌, ap, subst, arith}
+use Rattle.std.proofs.Common.{◌≡◌, ℕ, zero, suc, ◌<◌, Bool as Truth, true, false, Some, List, length, unwrap_or, get_or}
+use Rattle.std.proofs.Common.{refl, sym, ◌∙◌, ap, subst, arith}
 use Rattle.id_value.specs.declared.Kind.{Kind}
 use Rattle.id_value.specs.declared.Kind.TheVariants as kinds
 use Rattle.id_value.specs.Kinds.{array_kind, element_kind, is_array}
@@ -33,7 +34,8 @@ use Rattle.id_build.specs.Rows.{node, port_of, port_at, holds_array, binary_op, 
 use Rattle.id_build.specs.Rows.{origin, op_by, block, entries_row, label, label_by}
 use Rattle.id_laws.specs.Activations.{Tests, of_arms, of_turns}
 use Rattle.id_laws.specs.Topics.{Addresses}
-use Rattle.id_laws.proofs.Rows.Arcs.{Does, constant, unary, binary, hands, joins, takes_in, gets_last, allocates, gets_reply}
+use Rattle.id_laws.proofs.Rows.Arcs.{Does, constant, unary, binary, hands, joins, takes_in, gets_last, allocates}
+use Rattle.id_laws.proofs.Rows.Arcs.{gets_reply}
 use Rattle.id_laws.proofs.Rows.Arcs.{gets}
 use Rattle.id_build.proofs.LoopsLemmas.{entries_node, entries_stand, entries_within}
 use Rattle.id_build.proofs.ImportsLemmas.{name_seen}
@@ -114,7 +116,8 @@ module _ (P : Checked) (known : IsKnown P) where
   cell_at n t i within addressed =
       let z = known.cell_kinds n t i within addressed in
       let nested = z.0 in
-      let here : kind P n ≡ Some (element_kind (array_kind nested)) = known.cell_kind n t i within addressed ∙ ap (λ o. Some (kind_within o)) z.1 in
+      let here : kind P n ≡ Some (element_kind (array_kind nested)) =
+      known.cell_kind n t i within addressed ∙ ap (λ o. Some (kind_within o)) z.1 in
       record {
         nested = nested;
         target = port_is P t (array_kind nested) z.1 ∙ sym (array_port nested);
@@ -131,7 +134,8 @@ module _ (P : Checked) (known : IsKnown P) where
       itself : is_block (node P e) ≡ false → is_within (node P e) ≡ false → kind P (at R e).value ≡ kind P e
       itself plain own = ap (kind P) ((known.table).value_self e x.0 plain own)
 
-      go : (m : Node) → node P e ≡ m → ((i : ℕ) → i < bound → Operand P i → kind P (at R i).value ≡ kind P i) → kind P (at R e).value ≡ kind P e
+      go : (m : Node) → node P e ≡ m → ((i : ℕ) → i < bound → Operand P i → kind P (at R i).value ≡ kind P i)
+          → kind P (at R e).value ≡ kind P e
       go (Block b) m rest =
           let has_part : HasPart (node P e) b = subst (λ z. HasPart z b) (sym m) refl in
           let less = (((known.table).formed).each e x.0).parts b has_part in
@@ -176,7 +180,8 @@ module _ (P : Checked) (known : IsKnown P) where
 
   -- the label of a binder sends its kind
   label_sender : (b : ℕ) → b < length R → is_binder (node P b) ≡ true → Sender P (label P b) 0 (port_at P b)
-  label_sender b within e = let z = label_at P b within e in record { within = z.within; form = _; does = z.does; out = λ f. refl }
+  label_sender b within e =
+      let z = label_at P b within e in record { within = z.within; form = _; does = z.does; out = λ f. refl }
 
   -- and so does what a loop carries on for its index
   handed_sender : (b : ℕ) → b < length R → is_handed (node P b) ≡ true → Sender P (label P b) 0 (port_at P b)
@@ -204,17 +209,25 @@ module _ (P : Checked) (known : IsKnown P) where
       by (from_label is from) = subst (SentBy P (port_at P b)) (sym from) (handed_sender b handed.within handed.handed)
       by (from_switch n t k c less is few at_slot rest at from) =
           subst (SentBy P (port_at P b)) (sym from)
-          (record { within = less; form = _; does = hands k (tests_of is) few; out = λ f. ap (λ z. Some (port_at P z)) at_slot })
+          (record {
+            within = less;
+            form = _;
+            does = hands k (tests_of is) few;
+            out =
+                λ f. ap (λ z. Some (port_at P z)) at_slot;
+          })
       by (from_entry h s k less is few at_slot rest at from) =
           let e = entries_row P h in
           let of_block : block P e ≡ h = (entries_stand P h s less is e (omega arith) (omega arith)).0 in
-          let few_here : k < length (imports_of P (block P e)) = subst (λ g. k < length (imports_of P g)) (sym of_block) few in
+          let few_here : k < length (imports_of P (block P e)) =
+          subst (λ g. k < length (imports_of P g)) (sym of_block) few in
           subst (SentBy P (port_at P b)) (sym from)
           (record {
             within = entries_within P h s less is;
             form = _;
             does = takes_in k (entries_node P h s less is) few_here;
-            out = λ f. ap (λ g. Some (port_at P (get_or (imports_of P g) k 0))) of_block ∙ ap (λ z. Some (port_at P z)) at_slot;
+            out = λ f. ap (λ g. Some (port_at P (get_or (imports_of P g) k 0))) of_block
+                ∙ ap (λ z. Some (port_at P z)) at_slot;
           })
 
   abbrev Gives : ℕ → Type 0
@@ -237,13 +250,27 @@ module _ (P : Checked) (known : IsKnown P) where
           let from : origin_of P v (region P v) (node P v) ≡ name_in P (region P v) b =
           ap (origin_of P v (region P v)) is ∙ ap (named_in P (region P v) v) z.binds in
           let same = same_ports P b v (sym (known.name_kind v y b x.0 is z.binds)) in
-          subst (SentBy P (port_at P v)) (sym from) (subst (λ k. SentBy P k (name_in P (region P v) b)) same (named_sender (region P v) b (handed_binder P b binder) z.seen))
+          subst (SentBy P (port_at P v)) (sym from)
+          (subst (λ k. SentBy P k (name_in P (region P v) b)) same
+          (named_sender (region P v) b (handed_binder P b binder) z.seen))
       go (Literal c) is =
           let here = port_is P v (constant_kind c) (known.literal_kind v c x.0 is) in
-          own (Literal c) is refl (record { within = x.0; form = _; does = constant is; out = λ f. ap (λ k. Some k) (literal_port c ∙ sym here) })
+          own (Literal c) is refl (record {
+            within = x.0;
+            form = _;
+            does = constant is;
+            out =
+                λ f. ap (λ k. Some k) (literal_port c ∙ sym here);
+          })
       go (Unary o a) is =
           let here = port_is P v (unary_kind o) (known.unary_kinds v a o x.0 is) in
-          own (Unary o a) is refl (record { within = x.0; form = _; does = unary is; out = λ f. ap (λ k. Some k) (unary_port o ∙ sym here) })
+          own (Unary o a) is refl (record {
+            within = x.0;
+            form = _;
+            does = unary is;
+            out =
+                λ f. ap (λ k. Some k) (unary_port o ∙ sym here);
+          })
       go (Binary o a b) is =
           let s = operands_of P v a b o (record { within = x.0; node = is }) in
           let here = port_is P v (binary_kind o) (known.binary_kinds v a b o x.0 is) in
@@ -252,16 +279,29 @@ module _ (P : Checked) (known : IsKnown P) where
             within = x.0;
             form = _;
             does = binary is;
-            out = λ f. ap (λ k. Some k) (ap (λ k. outcome_kind (binary_op o k)) (port_is P a s.kind_of s.left) ∙ s.sent ∙ sym here);
+            out = λ f. ap (λ k. Some k) (ap (λ k. outcome_kind (binary_op o k)) (port_is P a s.kind_of s.left) ∙ s.sent
+                ∙ sym here);
           })
       go (If s y z) is = own (If s y z) is refl (record { within = x.0; form = _; does = joins is; out = λ f. refl })
       go (Call s c) is = own (Call s c) is refl (record { within = x.0; form = _; does = gets is; out = λ f. refl })
-      go (Loop h w l) is = own (Loop h w l) is refl (record { within = x.0; form = _; does = gets_last is; out = λ f. refl })
+      go (Loop h w l) is =
+          own (Loop h w l) is refl (record { within = x.0; form = _; does = gets_last is; out = λ f. refl })
       go (Array nested y z) is =
           let here = port_is P v (array_kind nested) (known.array_kind v y z x.0 is) in
-          own (Array nested y z) is refl (record { within = x.0; form = _; does = allocates is; out = λ f. ap (λ k. Some k) (array_port nested ∙ sym here) })
+          own (Array nested y z) is refl (record {
+            within = x.0;
+            form = _;
+            does = allocates is;
+            out =
+                λ f. ap (λ k. Some k) (array_port nested ∙ sym here);
+          })
       go (Fetch y z) is =
-          subst (SentBy P (port_at P v)) (sym (ap (origin_of P v (region P v)) is)) (record { within = x.0; form = _; does = gets_reply is; out = λ f. refl })
+          subst (SentBy P (port_at P v)) (sym (ap (origin_of P v (region P v)) is)) (record {
+            within = x.0;
+            form = _;
+            does = gets_reply is;
+            out = λ f. refl;
+          })
       go (Block b) is = let bad : true ≡ false = sym (ap is_block is) ∙ plain in cc
       go _ is = let bad : false ≡ true = sym (ap is_expression is) ∙ x.1 in cc
 

@@ -38,8 +38,11 @@ module _ (P : Checked) (known : IsKnown P) (g : Parts) (number : ℕ → ℕ →
   abbrev R : List Row
   R = rows P
 
-  pub op_made : {n part : ℕ} {o : Form} → n < length R → Does P n part o → op_at g (number n part) ≡ Some (op_by number o)
-  op_made {n} {part} within d = let i = numbered.made n part _ _ (makes within d) in ap (option_map (λ (x : Instr). x.op)) i.at ∙ ap (λ x. Some x) i.op
+  pub op_made : {n part : ℕ} {o : Form} → n < length R → Does P n part o
+      → op_at g (number n part) ≡ Some (op_by number o)
+  op_made {n} {part} within d =
+      let i = numbered.made n part _ _ (makes within d) in
+      ap (option_map (λ (x : Instr). x.op)) i.at ∙ ap (λ x. Some x) i.op
 
   pub block_among : (h : ℕ) → h < length R → begins_block (node P h) ≡ true → Among (block_of P number h) g.blocks
   block_among h within begins =
@@ -55,7 +58,8 @@ module _ (P : Checked) (known : IsKnown P) (g : Parts) (number : ℕ → ℕ →
 
   block_from : (b : Block) → Among b g.blocks → BlockOf b
   block_from b h =
-      let t = Among-from_map (block_of P number) b (all_heads P) (subst (λ (bs : List Block). Among b bs) numbered.blocks h) in
+      let t = Among-from_map (block_of P number) b (all_heads P)
+      (subst (λ (bs : List Block). Among b bs) numbered.blocks h) in
       let z = any_head P t.0 t.1 in
       record { head = t.0; within = z.0; begins = z.1; is = t.2 }
 
@@ -69,7 +73,8 @@ module _ (P : Checked) (known : IsKnown P) (g : Parts) (number : ℕ → ℕ →
       ap (op_at g) (sym at) ∙ op_made d.within (starts d.begins)
 
   -- behind the first instruction of a block stands its `back`
-  second_does : (h : ℕ) → h < length R → begins_block (node P h) ≡ true → IsSome (option_and_then back_kind (op_at g (number h 1)))
+  second_does : (h : ℕ) → h < length R → begins_block (node P h) ≡ true
+      → IsSome (option_and_then back_kind (op_at g (number h 1)))
   second_does h within begins = go (node P h) refl begins
     where
       go : (m : Node) → node P h ≡ m → begins_block m ≡ true → IsSome (option_and_then back_kind (op_at g (number h 1)))
@@ -81,7 +86,9 @@ module _ (P : Checked) (known : IsKnown P) (g : Parts) (number : ℕ → ℕ →
   second_is n h =
       let t = among_any (λ (b : Block). b.first + 1 == n) g.blocks h in
       let d = block_from t.0 t.1 in
-      let at : number d.head 1 ≡ n = numbered.second_behind d.head (all_listed P d.head d.within d.begins) ∙ sym (ap (λ (b : Block). b.first + 1) d.is) ∙ number_is ((t.0).first + 1) n t.2 in
+      let at : number d.head 1 ≡ n =
+      numbered.second_behind d.head (all_listed P d.head d.within d.begins) ∙ sym (ap (λ (b : Block). b.first + 1) d.is)
+      ∙ number_is ((t.0).first + 1) n t.2 in
       subst (λ k. IsSome (option_and_then back_kind (op_at g k))) at (second_does d.head d.within d.begins)
 
   entry_is : (n : ℕ) → IsTrue (is_entry g n) → IsSome (option_and_then merge_kind (op_at g n))
@@ -89,7 +96,8 @@ module _ (P : Checked) (known : IsKnown P) (g : Parts) (number : ℕ → ℕ →
       let t = among_any (λ (b : Block). list_any (λ e. e == n) b.entries) g.blocks h in
       let d = block_from t.0 t.1 in
       let numbers = map (λ (q : Entry). number q.row q.part) (entries P d.head) in
-      let listed : list_any (λ e. e == n) numbers ≡ true = ap (λ (b : Block). list_any (λ e. e == n) b.entries) (sym d.is) ∙ t.2 in
+      let listed : list_any (λ e. e == n) numbers ≡ true =
+      ap (λ (b : Block). list_any (λ e. e == n) b.entries) (sym d.is) ∙ t.2 in
       let e = among_any (λ e. e == n) numbers listed in
       let x = Among-from_map (λ (q : Entry). number q.row q.part) e.0 (entries P d.head) e.1 in
       let z = entry_merge P d.head x.0 d.within d.begins x.1 in
@@ -98,18 +106,22 @@ module _ (P : Checked) (known : IsKnown P) (g : Parts) (number : ℕ → ℕ →
       rw does refl
 
   -- what is the number of an entry of a block is an entry
-  pub entry_there : (h : ℕ) (q : Entry) → h < length R → begins_block (node P h) ≡ true → Among q (entries P h) → is_entry g (number q.row q.part) ≡ true
+  pub entry_there : (h : ℕ) (q : Entry) → h < length R → begins_block (node P h) ≡ true → Among q (entries P h)
+      → is_entry g (number q.row q.part) ≡ true
   entry_there h q within begins among =
       let n = number q.row q.part in
       let numbers = map (λ (z : Entry). number z.row z.part) (entries P h) in
-      any_among (λ (c : Block). list_any (λ e. e == n) c.entries) (block_of P number h) g.blocks (block_among h within begins)
-      (any_among (λ e. e == n) n numbers (Among-map (λ (z : Entry). number z.row z.part) q (entries P h) among) (same_number n n refl))
+      any_among (λ (c : Block). list_any (λ e. e == n) c.entries) (block_of P number h) g.blocks
+      (block_among h within begins)
+      (any_among (λ e. e == n) n numbers (Among-map (λ (z : Entry). number z.row z.part) q (entries P h) among)
+      (same_number n n refl))
 
   pub fills : (n : ℕ) → FillsRoles g n
   fills n = record { first = first_is n; second = second_is n; entry = entry_is n }
 
   -- the instruction at a number does what its part does
-  pub does_at : {q part : ℕ} {o : Form} (n : ℕ) (i : Instr) → q < length R → Does P q part o → number q part ≡ n → slice_get g.instrs n ≡ Some i →
+  pub does_at : {q part : ℕ} {o : Form} (n : ℕ) (i : Instr) → q < length R → Does P q part o → number q part ≡ n
+      → slice_get g.instrs n ≡ Some i →
       i.op ≡ op_by number o
   does_at {q} {part} {o} n i within d is at =
       let k = numbered.made q part _ _ (makes within d) in
@@ -127,11 +139,21 @@ module _ (P : Checked) (known : IsKnown P) (g : Parts) (number : ℕ → ℕ →
     pub op_is : op_by number form ≡ o
     pub is : number row part ≡ n
 
-  pub stands : (n : ℕ) (o : Op) (x : Option Instr) → slice_get g.instrs n ≡ x → option_map (λ (i : Instr). i.op) x ≡ Some o → Stands n o
+  pub stands : (n : ℕ) (o : Op) (x : Option Instr) → slice_get g.instrs n ≡ x
+      → option_map (λ (i : Instr). i.op) x ≡ Some o → Stands n o
   stands n o None e h = cc
   stands n o (Some i) e h =
       let r = numbered.only n i e in
       let d = doing r.makes in
       let here : i.op ≡ o = cc in
       let op_is : op_by number r.form ≡ o = sym (does_at n i (r.makes).within d.does r.is e) ∙ here in
-      record { row = r.row; part = r.part; within = (r.makes).within; form = r.form; does = d.does; op_is = op_is; is = r.is }
+      record {
+        row = r.row;
+        part = r.part;
+        within = (r.makes).within;
+        form = r.form;
+        does = d.does;
+        op_is = op_is;
+        is =
+            r.is;
+      }

@@ -37,12 +37,23 @@ module _ (P : Checked) (n a b : ℕ) where
       by (inr e) = record { kind_of = Bool; left = e; right = z.1 ∙ e; taken = u; sent = w }
 
   pub operands_of : (o : BinaryOp) → Stands P n (Binary o a b) → Operands P o a b
-  operands_of (class.Arithmetic o) h = let z = arithmetic_row P n a b o h in record { kind_of = Int; left = z.0; right = z.1; taken = refl; sent = refl }
-  operands_of (class.Logic And) h = let z = logic_row P n a b And h in record { kind_of = Bool; left = z.0; right = z.1; taken = refl; sent = refl }
-  operands_of (class.Logic Or) h = let z = logic_row P n a b Or h in record { kind_of = Bool; left = z.0; right = z.1; taken = refl; sent = refl }
-  operands_of (class.Comparison Lt) h = let z = order_row P n a b Lt refl h in record { kind_of = Int; left = z.0; right = z.1; taken = refl; sent = refl }
-  operands_of (class.Comparison Le) h = let z = order_row P n a b Le refl h in record { kind_of = Int; left = z.0; right = z.1; taken = refl; sent = refl }
-  operands_of (class.Comparison Gt) h = let z = order_row P n a b Gt refl h in record { kind_of = Int; left = z.0; right = z.1; taken = refl; sent = refl }
-  operands_of (class.Comparison Ge) h = let z = order_row P n a b Ge refl h in record { kind_of = Int; left = z.0; right = z.1; taken = refl; sent = refl }
+  operands_of (class.Arithmetic o) h =
+      let z = arithmetic_row P n a b o h in record { kind_of = Int; left = z.0; right = z.1; taken = refl; sent = refl }
+  operands_of (class.Logic And) h =
+      let z = logic_row P n a b And h in record { kind_of = Bool; left = z.0; right = z.1; taken = refl; sent = refl }
+  operands_of (class.Logic Or) h =
+      let z = logic_row P n a b Or h in record { kind_of = Bool; left = z.0; right = z.1; taken = refl; sent = refl }
+  operands_of (class.Comparison Lt) h =
+      let z = order_row P n a b Lt refl h in
+      record { kind_of = Int; left = z.0; right = z.1; taken = refl; sent = refl }
+  operands_of (class.Comparison Le) h =
+      let z = order_row P n a b Le refl h in
+      record { kind_of = Int; left = z.0; right = z.1; taken = refl; sent = refl }
+  operands_of (class.Comparison Gt) h =
+      let z = order_row P n a b Gt refl h in
+      record { kind_of = Int; left = z.0; right = z.1; taken = refl; sent = refl }
+  operands_of (class.Comparison Ge) h =
+      let z = order_row P n a b Ge refl h in
+      record { kind_of = Int; left = z.0; right = z.1; taken = refl; sent = refl }
   operands_of (class.Comparison Eq) h = equals_of Eq (equality_row P n a b Eq refl h) refl refl refl refl
   operands_of (class.Comparison Ne) h = equals_of Ne (equality_row P n a b Ne refl h) refl refl refl refl

@@ -16,5 +16,6 @@ returns c =
     let first : c.number_at-first.result ≡ number_by F n 0 =
     c.number_at-first.ensures.number in
     on_ok_weaker c.push_arc-2.result
-    (two_arcs F F _ n 0 0 _ _ (origin P c.args.then) (origin P c.args.otherwise) _ _ Zero Zero xs _ _ refl refl first first
+    (two_arcs F F _ n 0 0 _ _ (origin P c.args.then) (origin P c.args.otherwise) _ _ Zero Zero xs _ _ refl refl first
+    first
     c.origin.ensures.origin c.origin-2.ensures.origin c.in_ok-push_arc.ensures) c.push_arc-2.ensures

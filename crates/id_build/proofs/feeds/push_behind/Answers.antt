@@ -15,5 +15,6 @@ returns c =
     let first : c.number_at-first.result ≡ number_by F n 0 =
     c.number_at-first.ensures.number in
     on_ok_weaker c.push_two.result
-    (two_are F F n 0 _ (output c.args.row) _ (origin P c.args.value) _ xs _ refl first c.output.ensures c.origin-value.ensures.origin)
+    (two_are F F n 0 _ (output c.args.row) _ (origin P c.args.value) _ xs _ refl first c.output.ensures
+    c.origin-value.ensures.origin)
     c.push_two.ensures

@@ -18,6 +18,7 @@ returns c =
     c.number_at-first.ensures.number in
     let second : c.number_at-first.result + 1 ≡ number_by F n 1 = omega (arith, first) in
     on_ok_weaker c.push_two.result
-    (λ e. then_two F _ n 1 _ (output n) _ a _ (feed a 0 Zero ∷ feed b 0 One ∷ []) c.args.arcs.now.items c.push_operands.new.arcs.items
+    (λ e. then_two F _ n 1 _ (output n) _ a _ (feed a 0 Zero ∷ feed b 0 One ∷ []) c.args.arcs.now.items
+    c.push_operands.new.arcs.items
     c.push_two.new.arcs.items refl second c.output.ensures c.origin.ensures.origin c.in_ok-push_operands.ensures e)
     c.push_two.ensures

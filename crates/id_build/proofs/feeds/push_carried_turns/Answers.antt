@@ -1,5 +1,6 @@
 -- The arcs are pushed one after another.
-use Rattle.std.proofs.Common.{◌≡◌, ◌∙◌, ◌+◌, ◌-◌, ◌++◌, ◌∷◌, [], List, Bool, true, cond, ap, append-nil, arith, map, refl, sym}
+use Rattle.std.proofs.Common.{◌≡◌, ◌∙◌, ◌+◌, ◌-◌, ◌++◌, ◌∷◌, [], List, Bool, true, cond, ap, append-nil, arith, map}
+use Rattle.std.proofs.Common.{refl, sym}
 use Rattle.std.proofs.lemmas.Result.{on_ok_weaker}
 use Rattle.id_desugar.specs.Regions.{has_index}
 use Rattle.id_instr.specs.declared.dests.Port.TheVariants.{Zero}
@@ -26,9 +27,11 @@ returns c =
     let all : List Feed = gs ++ feed (output (n - 1)) 3 Zero ∷ [] in
     let a = then_one F F n 1 _ (part_of (n - 1) 4) _ Zero [] xs xs c.push_arc.new.arcs.items refl (omega (arith, first))
     (c.part_of.ensures ∙ ap (λ z. part_of z 4) m) (sym (append-nil xs)) c.in_ok-push_arc.ensures in
-    let b = then_one F _ n 2 _ (name_in P r (h + 2)) _ Zero fs xs _ c.push_arc-2.new.arcs.items refl (omega (arith, first)) c.name_in-bound.ensures.origin a
+    let b = then_one F _ n 2 _ (name_in P r (h + 2)) _ Zero fs xs _ c.push_arc-2.new.arcs.items refl
+    (omega (arith, first)) c.name_in-bound.ensures.origin a
     c.in_ok-push_arc-2.ensures in
     on_ok_weaker c.push_arc-3.result
-    (λ e. then_one F _ n 3 _ (output (n - 1)) _ Zero gs xs _ c.push_arc-3.new.arcs.items refl (omega (arith, first)) (c.output.ensures ∙ ap output m) b e
+    (λ e. then_one F _ n 3 _ (output (n - 1)) _ Zero gs xs _ c.push_arc-3.new.arcs.items refl (omega (arith, first))
+    (c.output.ensures ∙ ap output m) b e
     ∙ ap (λ (t : Bool). xs ++ map (arc_of F n) (cond t all [])) (sym has))
     c.push_arc-3.ensures

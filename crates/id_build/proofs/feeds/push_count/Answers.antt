@@ -27,14 +27,19 @@ returns c =
     let gs : List Feed = fs ++ feed (output n) 1 Zero ∷ feed (trigger_of r) 1 One ∷ [] in
     let hs : List Feed = gs ++ feed (output n) 2 Zero ∷ feed x 2 One ∷ [] in
     let ks : List Feed = hs ++ feed (part_of n 1) 3 Zero ∷ [] in
-    let a = then_two F F n 0 _ x _ b _ [] xs xs c.push_two.new.arcs.items refl first index bound (sym (append-nil xs)) c.in_ok-push_two.ensures in
-    let d = then_two F _ n 1 _ (output n) _ (trigger_of r) _ fs xs _ c.push_two-2.new.arcs.items refl (omega (arith, first)) c.output.ensures
+    let a = then_two F F n 0 _ x _ b _ [] xs xs c.push_two.new.arcs.items refl first index bound (sym (append-nil xs))
+    c.in_ok-push_two.ensures in
+    let d = then_two F _ n 1 _ (output n) _ (trigger_of r) _ fs xs _ c.push_two-2.new.arcs.items refl
+    (omega (arith, first)) c.output.ensures
     c.trigger_of.ensures a c.in_ok-push_two-2.ensures in
-    let e = then_two F _ n 2 _ (output n) _ x _ gs xs _ c.push_two-3.new.arcs.items refl (omega (arith, first)) c.output-2.ensures
+    let e = then_two F _ n 2 _ (output n) _ x _ gs xs _ c.push_two-3.new.arcs.items refl (omega (arith, first))
+    c.output-2.ensures
     index d c.in_ok-push_two-3.ensures in
-    let g = then_one F _ n 3 _ (part_of n 1) _ Zero hs xs _ c.push_arc.new.arcs.items refl (omega (arith, first)) c.part_of.ensures e
+    let g = then_one F _ n 3 _ (part_of n 1) _ Zero hs xs _ c.push_arc.new.arcs.items refl (omega (arith, first))
+    c.part_of.ensures e
     c.in_ok-push_arc.ensures in
     on_ok_weaker c.push_two-4.result
-    (λ k. then_two F _ n 4 _ (part_of n 2) _ (part_of n 3) _ ks xs _ c.push_two-4.new.arcs.items refl (omega (arith, first)) c.part_of-2.ensures
+    (λ k. then_two F _ n 4 _ (part_of n 2) _ (part_of n 3) _ ks xs _ c.push_two-4.new.arcs.items refl
+    (omega (arith, first)) c.part_of-2.ensures
     c.part_of-3.ensures g k)
     c.push_two-4.ensures

@@ -22,7 +22,9 @@ loop-part-preserved c =
     omega (arith, c.number_at-first.ensures.number) in
     let j = 1 + length (carried P c.args.head) in
     let up : k + (1 + c.carried_count-handed.result) ≡ j + k = omega (arith, c.carried_count-handed.ensures.count) in
-    let turn = c.part_of.ensures ∙ ap (λ z. part_of z (k + (1 + c.carried_count-handed.result))) c.turn_row-turn.ensures ∙ ap (part_of m) up in
+    let turn =
+    c.part_of.ensures ∙ ap (λ z. part_of z (k + (1 + c.carried_count-handed.result))) c.turn_row-turn.ensures
+    ∙ ap (part_of m) up in
     let one = c.in_ok-push_arc.ensures ∙ ap (λ z. xs ++ z ∷ [])
     (arc_is F F n k (c.number_at-first.result + k) (part_of m (j + k)) _ Zero
     refl to turn) in
@@ -32,12 +34,17 @@ pub loop-part-init : goal.loop-part-init
 loop-part-init c =
     let P = c.args.slots.now.kernel.now.checked.now in
     let h = c.args.head in
-    ap (λ z. c.args.arcs.now.items ++ map (arc_of c.args.slots.now.firsts.items c.args.n) (entry_feeds (turn_row P h) z 0 (imports_of P h)))
+    ap (λ z. c.args.arcs.now.items
+    ++ map (arc_of c.args.slots.now.firsts.items c.args.n) (entry_feeds (turn_row P h) z 0 (imports_of P h)))
     (add-zero (1 + length (carried P h)))
 
 pub returns : goal.returns
 returns c =
     let P = c.args.slots.now.kernel.now.checked.now in
-    let end : length (imports_of P c.args.head) ≤ c.loop-part.part = omega (arith, c.loop-part-test.false, ap length c.imports_at-part-end.ensures) in
-    rest_done (λ z. map (arc_of c.args.slots.now.firsts.items c.args.n) (entry_feeds (turn_row P c.args.head) (1 + length (carried P c.args.head) + c.loop-part.part) c.loop-part.part z)) c.loop-part.part
+    let end : length (imports_of P c.args.head) ≤ c.loop-part.part =
+    omega (arith, c.loop-part-test.false, ap length c.imports_at-part-end.ensures) in
+    rest_done
+    (λ z. map (arc_of c.args.slots.now.firsts.items c.args.n)
+    (entry_feeds (turn_row P c.args.head) (1 + length (carried P c.args.head) + c.loop-part.part) c.loop-part.part z))
+    c.loop-part.part
     (imports_of P c.args.head) c.loop-part.arcs.items _ refl end c.loop-part.invariant

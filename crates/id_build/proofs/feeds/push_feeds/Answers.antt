@@ -1,7 +1,8 @@
 -- A row where no thing of the text stands is a marker.
 use Rattle.std.proofs.Common.{◌≡◌, false, refl}
 use Rattle.id_table.specs.declared.row.Node.{Node}
-use Rattle.id_table.specs.declared.row.Node.TheVariants.{Param, Literal, Name, Unary, Binary, If, Call, Next, Loop, Array, Fetch}
+use Rattle.id_table.specs.declared.row.Node.TheVariants.{Param, Literal, Name, Unary, Binary, If, Call, Next, Loop}
+use Rattle.id_table.specs.declared.row.Node.TheVariants.{Array, Fetch}
 use Rattle.id_table.specs.declared.row.Node.TheVariants.{Store, Block, Binding, Def, Index}
 use Rattle.id_table.specs.Tables.{is_thing}
 use Rattle.id_build.proofs.feeds.push_feeds.Goals as goal
@@ -27,4 +28,5 @@ no_thing c (Def x h k b) e = absurd (c.in_default.not-Def x h k b e)
 no_thing c _ e = refl
 
 pub push_marker-requires-clause-marker : goal.push_marker-requires-clause-marker
-push_marker-requires-clause-marker c = no_thing (goal.at.push_marker-requires-clause-marker c).In_default c.row_at-row.result.node refl
+push_marker-requires-clause-marker c =
+    no_thing (goal.at.push_marker-requires-clause-marker c).In_default c.row_at-row.result.node refl

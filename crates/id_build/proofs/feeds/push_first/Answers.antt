@@ -12,4 +12,5 @@ returns c =
     let n = c.args.n in
     let first : c.number_at-first.result ≡ number_by F n 0 =
     c.number_at-first.ensures.number in
-    on_ok_weaker c.push_arc.result (one_arc F F n 0 _ c.args.origin _ Zero c.args.arcs.now.items _ refl first refl) c.push_arc.ensures
+    on_ok_weaker c.push_arc.result (one_arc F F n 0 _ c.args.origin _ Zero c.args.arcs.now.items _ refl first refl)
+    c.push_arc.ensures

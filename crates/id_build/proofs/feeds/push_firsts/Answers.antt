@@ -18,7 +18,8 @@ loop-next-preserved c =
     let ys = c.push_two.new.arcs.items in
     let to : c.loop-next.to ≡ number_by F n (k + i) = omega (arith, c.loop-next.invariant.to) in
     let here = c.name_in.ensures.origin ∙ ap (name_in P r) c.first_binder-binder.ensures in
-    let two = two_are F F n (k + i) c.loop-next.to (output n) c.output.result (name_in P r (first_binder P (get_or ms i 0)))
+    let two =
+    two_are F F n (k + i) c.loop-next.to (output n) c.output.result (name_in P r (first_binder P (get_or ms i 0)))
     c.name_in.result xs ys
     refl to c.output.ensures here c.in_ok-push_two.ensures in
     record {
@@ -34,7 +35,9 @@ loop-next-init c =
     c.number_at.ensures.number in
     record {
       list = ap
-          (λ k. c.args.arcs.now.items ++ map (arc_of F c.args.n) (import_feeds P (output c.args.n) c.args.region k (map (first_binder P) c.args.nexts.now)))
+          (λ k. c.args.arcs.now.items
+          ++ map (arc_of F c.args.n)
+          (import_feeds P (output c.args.n) c.args.region k (map (first_binder P) c.args.nexts.now)))
           (add-zero c.args.first);
       to = omega (arith, first);
     }
@@ -42,5 +45,7 @@ loop-next-init c =
 pub returns : goal.returns
 returns c = rest_done
     (λ z. map (arc_of c.args.slots.now.firsts.items c.args.n)
-    (import_feeds c.args.slots.now.kernel.now.checked.now (output c.args.n) c.args.region (c.args.first + c.loop-next.next-index) (map (first_binder c.args.slots.now.kernel.now.checked.now) z)))
-    c.loop-next.next-index c.args.nexts.now c.loop-next.arcs.items _ refl c.loop-next-test.false c.loop-next.invariant.list
+    (import_feeds c.args.slots.now.kernel.now.checked.now (output c.args.n) c.args.region
+    (c.args.first + c.loop-next.next-index) (map (first_binder c.args.slots.now.kernel.now.checked.now) z)))
+    c.loop-next.next-index c.args.nexts.now c.loop-next.arcs.items _ refl c.loop-next-test.false
+    c.loop-next.invariant.list

@@ -32,7 +32,9 @@ loop-binder-init c =
     let first : c.number_at.result ≡ number_by F c.args.n 0 =
     c.number_at.ensures.number in
     record {
-      list = ap (λ k. c.args.arcs.now.items ++ map (arc_of F c.args.n) (import_feeds P c.args.source c.args.region k c.args.binders.now))
+      list = ap
+          (λ k. c.args.arcs.now.items
+          ++ map (arc_of F c.args.n) (import_feeds P c.args.source c.args.region k c.args.binders.now))
           (add-zero c.args.part);
       to = omega (arith, first);
     }
@@ -40,5 +42,7 @@ loop-binder-init c =
 pub returns : goal.returns
 returns c = rest_done
     (λ z. map (arc_of c.args.slots.now.firsts.items c.args.n)
-    (import_feeds c.args.slots.now.kernel.now.checked.now c.args.source c.args.region (c.args.part + c.loop-binder.binder-index) z))
-    c.loop-binder.binder-index c.args.binders.now c.loop-binder.arcs.items _ refl c.loop-binder-test.false c.loop-binder.invariant.list
+    (import_feeds c.args.slots.now.kernel.now.checked.now c.args.source c.args.region
+    (c.args.part + c.loop-binder.binder-index) z))
+    c.loop-binder.binder-index c.args.binders.now c.loop-binder.arcs.items _ refl c.loop-binder-test.false
+    c.loop-binder.invariant.list

@@ -17,8 +17,10 @@ returns c =
     c.number_at-first.ensures.number in
     let second : c.number_at-first.result + 1 ≡ number_by F n 1 = omega (arith, first) in
     let turn = c.output.ensures ∙ ap output c.turn_row-turn.ensures in
-    let back : c.saturating_sub-reset.result ≡ end_of P n - 2 = omega (arith, c.saturating_sub-reset.ensures, c.end_of.ensures) in
+    let back : c.saturating_sub-reset.result ≡ end_of P n - 2 =
+    omega (arith, c.saturating_sub-reset.ensures, c.end_of.ensures) in
     let reset = c.output-2.ensures ∙ ap output back in
     on_ok_weaker c.push_arc-2.result
-    (two_arcs F F _ n 0 1 _ _ (output (turn_row P n)) (output (end_of P n - 2)) _ _ Zero One c.args.arcs.now.items _ _ refl refl first second turn
+    (two_arcs F F _ n 0 1 _ _ (output (turn_row P n)) (output (end_of P n - 2)) _ _ Zero One c.args.arcs.now.items _ _
+    refl refl first second turn
     reset c.in_ok-push_arc.ensures) c.push_arc-2.ensures

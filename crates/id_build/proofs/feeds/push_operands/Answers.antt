@@ -15,5 +15,6 @@ returns c =
     let first : c.number_at-first.result ≡ number_by F n 0 =
     c.number_at-first.ensures.number in
     on_ok_weaker c.push_two.result
-    (two_are F F n 0 _ (origin P c.args.left) _ (origin P c.args.right) _ xs _ refl first c.origin-left.ensures.origin c.origin-right.ensures.origin)
+    (two_are F F n 0 _ (origin P c.args.left) _ (origin P c.args.right) _ xs _ refl first c.origin-left.ensures.origin
+    c.origin-right.ensures.origin)
     c.push_two.ensures

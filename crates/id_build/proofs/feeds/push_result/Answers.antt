@@ -17,6 +17,9 @@ returns c =
     let first : c.number_at-first.result ≡ number_by F n 0 =
     c.number_at-first.ensures.number in
     let second : c.number_at-first.result + 1 ≡ number_by F n 1 = omega (arith, first) in
-    let body = c.body_of-body.ensures ∙ ap (λ r. body_of r.node) c.row_at.ensures ∙ ap (λ m. body_of (node P m)) c.end_of.ensures in
+    let body =
+    c.body_of-body.ensures ∙ ap (λ r. body_of r.node) c.row_at.ensures
+    ∙ ap (λ m. body_of (node P m)) c.end_of.ensures in
     let from = c.origin.ensures.origin ∙ ap (origin P) body in
-    on_ok_weaker c.push_arc.result (one_arc F F n 1 _ (origin P (body_of (node P (end_of P n)))) _ One xs _ refl second from) c.push_arc.ensures
+    on_ok_weaker c.push_arc.result
+    (one_arc F F n 1 _ (origin P (body_of (node P (end_of P n)))) _ One xs _ refl second from) c.push_arc.ensures

@@ -1,5 +1,6 @@
 -- The arc of one more of what hands on is pushed.
-use Rattle.std.proofs.Common.{◌≡◌, ◌∙◌, ◌+◌, ◌<◌, ◌≤◌, ◌++◌, ◌∷◌, [], ℕ, List, add-zero, ap, append-nil, arith, get_or, length, map, refl, subst, sym}
+use Rattle.std.proofs.Common.{◌≡◌, ◌∙◌, ◌+◌, ◌<◌, ◌≤◌, ◌++◌, ◌∷◌, [], ℕ, List, add-zero, ap, append-nil, arith, get_or}
+use Rattle.std.proofs.Common.{length, map, refl, subst, sym}
 use Rattle.std.proofs.lemmas.List.{map-append}
 use Rattle.id_desugar.specs.Regions.{carried, imports_of}
 use Rattle.id_instr.specs.declared.dests.Port.TheVariants.{Zero}
@@ -23,7 +24,8 @@ loop-binder-preserved c =
     let xs = c.loop-binder.arcs.items in
     let ys = c.push_arc-in-loop-binder.new.arcs.items in
     let to : c.loop-binder.to + 1 ≡ number_by F n (k + i) = omega (arith, c.loop-binder.invariant.to) in
-    let here : c.name_in.result ≡ name_in P r (get_or bs i 0) = c.name_in.ensures.origin ∙ ap (λ (l : List ℕ). name_in P r (get_or l i 0)) list in
+    let here : c.name_in.result ≡ name_in P r (get_or bs i 0) =
+    c.name_in.ensures.origin ∙ ap (λ (l : List ℕ). name_in P r (get_or l i 0)) list in
     let one = c.in_ok-push_arc-2.ensures ∙ ap (λ z. xs ++ z ∷ [])
     (arc_is F F n (k + i) (c.loop-binder.to + 1) (name_in P r (get_or bs i 0)) c.name_in.result Zero
     refl to here) in
@@ -52,9 +54,11 @@ loop-binder-init c =
     let two : zs ≡ ys ++ B = c.in_ok-push_carried_turns.ensures in
     record {
       list = ap (λ z. zs ++ map (arc_of F n) (turn_feeds P r z (imports_of P h))) (add-zero k)
-          ∙ added xs ys zs (zs ++ C) (zs ++ C) (arc_of F n (feed (trigger_of r) 0 Zero)) B C [] one two refl (sym (append-nil (zs ++ C)))
+          ∙ added xs ys zs (zs ++ C) (zs ++ C) (arc_of F n (feed (trigger_of r) 0 Zero)) B C [] one two refl
+          (sym (append-nil (zs ++ C)))
           ∙ ap (λ z. xs ++ arc_of F n (feed (trigger_of r) 0 Zero) ∷ (B ++ z)) (append-nil C)
-          ∙ ap (λ z. xs ++ arc_of F n (feed (trigger_of r) 0 Zero) ∷ z) (sym (map-append (arc_of F n) (carried_feeds P n r h) (turn_feeds P r k (imports_of P h))));
+          ∙ ap (λ z. xs ++ arc_of F n (feed (trigger_of r) 0 Zero) ∷ z)
+          (sym (map-append (arc_of F n) (carried_feeds P n r h) (turn_feeds P r k (imports_of P h))));
       to = omega (arith, first, c.carried_count.ensures.count);
     }
 
@@ -62,7 +66,8 @@ pub returns : goal.returns
 returns c =
     let P = c.args.slots.now.kernel.now.checked.now in
     let bs = imports_of P c.args.head in
-    let end : length bs ≤ c.loop-binder.binder-index = omega (arith, c.loop-binder-test.false, ap length c.imports_at-binder-items.ensures) in
+    let end : length bs ≤ c.loop-binder.binder-index =
+    omega (arith, c.loop-binder-test.false, ap length c.imports_at-binder-items.ensures) in
     rest_done
     (λ z. map (arc_of c.args.slots.now.firsts.items c.args.n)
     (turn_feeds P c.args.region (1 + length (carried P c.args.head) + c.loop-binder.binder-index) z))

@@ -22,7 +22,12 @@ pub connect-requires-clause-from : goal.connect-requires-clause-from
 connect-requires-clause-from c =
     let i = c.loop-arc.arc-index in
     let h = c.requires.from i none (omega arith) in
-    omega (arith, h.0, ap length c.loop-arc.invariant, length-connected c.args.instrs.now.items (take i c.args.arcs.now))
+    omega (
+      arith,
+      h.0,
+      ap length c.loop-arc.invariant,
+      length-connected c.args.instrs.now.items (take i c.args.arcs.now),
+    )
 
 pub connect-requires-clause-to : goal.connect-requires-clause-to
 connect-requires-clause-to c =

@@ -8,7 +8,14 @@ pub overflow_add-result : goal.overflow_add-result
 overflow_add-result c =
     let P = c.args.kernel.now.checked.now in
     let h = c.args.head in
-    omega (arith, head_inside P h c.requires, rows_few P, carried_few P h, c.first_variable.ensures, c.nexts_at.ensures.few)
+    omega (
+      arith,
+      head_inside P h c.requires,
+      rows_few P,
+      carried_few P h,
+      c.first_variable.ensures,
+      c.nexts_at.ensures.few,
+    )
 
 pub returns : goal.returns
 returns c =

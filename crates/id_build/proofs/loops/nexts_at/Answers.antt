@@ -14,7 +14,8 @@ overflow_sub-result c =
       | then-has_index w ↦ w.first-is ∙ sym (bound_count P h true (sym c.has_index.ensures ∙ w.if-has_index.true))
       | else-has_index w ↦ w.first-is ∙ sym (bound_count P h false (sym c.has_index.ensures ∙ w.if-has_index.false))
     ] in
-    (middle_is c.if-has_index.first (bound_of P h) (nexts_of P h) (imports_of P h) _ _ all c.imports_at-inner.ensures first).0
+    (middle_is c.if-has_index.first (bound_of P h) (nexts_of P h) (imports_of P h) _ _ all c.imports_at-inner.ensures
+    first).0
 
 pub slice_bounds-result-start : goal.slice_bounds-result-start
 slice_bounds-result-start c =
@@ -25,7 +26,8 @@ slice_bounds-result-start c =
       | then-has_index w ↦ w.first-is ∙ sym (bound_count P h true (sym c.has_index.ensures ∙ w.if-has_index.true))
       | else-has_index w ↦ w.first-is ∙ sym (bound_count P h false (sym c.has_index.ensures ∙ w.if-has_index.false))
     ] in
-    (middle_is c.if-has_index.first (bound_of P h) (nexts_of P h) (imports_of P h) _ _ all c.imports_at-inner.ensures first).1
+    (middle_is c.if-has_index.first (bound_of P h) (nexts_of P h) (imports_of P h) _ _ all c.imports_at-inner.ensures
+    first).1
 
 pub slice_bounds-result-count : goal.slice_bounds-result-count
 slice_bounds-result-count c =
@@ -36,7 +38,8 @@ slice_bounds-result-count c =
       | then-has_index w ↦ w.first-is ∙ sym (bound_count P h true (sym c.has_index.ensures ∙ w.if-has_index.true))
       | else-has_index w ↦ w.first-is ∙ sym (bound_count P h false (sym c.has_index.ensures ∙ w.if-has_index.false))
     ] in
-    (middle_is c.if-has_index.first (bound_of P h) (nexts_of P h) (imports_of P h) _ _ all c.imports_at-inner.ensures first).1
+    (middle_is c.if-has_index.first (bound_of P h) (nexts_of P h) (imports_of P h) _ _ all c.imports_at-inner.ensures
+    first).1
 
 pub returns-clause-nexts : goal.returns-clause-nexts
 returns-clause-nexts c =
@@ -47,4 +50,5 @@ returns-clause-nexts c =
       | then-has_index w ↦ w.first-is ∙ sym (bound_count P h true (sym c.has_index.ensures ∙ w.if-has_index.true))
       | else-has_index w ↦ w.first-is ∙ sym (bound_count P h false (sym c.has_index.ensures ∙ w.if-has_index.false))
     ] in
-    (middle_is c.if-has_index.first (bound_of P h) (nexts_of P h) (imports_of P h) _ _ all c.imports_at-inner.ensures first).2
+    (middle_is c.if-has_index.first (bound_of P h) (nexts_of P h) (imports_of P h) _ _ all c.imports_at-inner.ensures
+    first).2

@@ -17,16 +17,28 @@ loop-part-preserved c =
     let i = c.loop-part.part in
     let xs = c.loop-part.pieces.items in
     let low : i < length (carried P h) = omega (arith, c.loop-part-test.true, c.carried_count-part-end.ensures.count) in
-    carried_entries-next (send_to P c.args.place) i (carried P h) xs c.push_send.new.pieces.items _ low c.loop-part.invariant
-    (c.in_ok-push_send.ensures ∙ ap (λ b. xs ++ send_to P c.args.place (param_entry b) ∷ []) (sym (carried_at P h i low)))
+    carried_entries-next (send_to P c.args.place) i (carried P h) xs c.push_send.new.pieces.items _ low
+    c.loop-part.invariant
+    (c.in_ok-push_send.ensures
+    ∙ ap (λ b. xs ++ send_to P c.args.place (param_entry b) ∷ []) (sym (carried_at P h i low)))
 
 pub returns : goal.returns
-returns c = rest_done (λ z. map (send_to c.args.checked.now c.args.place) (map param_entry z)) c.loop-part.part (carried c.args.checked.now c.args.head)
-    c.loop-part.pieces.items _ refl (omega (arith, c.loop-part-test.false, c.carried_count-part-end.ensures.count)) c.loop-part.invariant
+returns c =
+    rest_done (λ z. map (send_to c.args.checked.now c.args.place) (map param_entry z)) c.loop-part.part
+    (carried c.args.checked.now c.args.head)
+    c.loop-part.pieces.items _ refl (omega (arith, c.loop-part-test.false, c.carried_count-part-end.ensures.count))
+    c.loop-part.invariant
 
 pub overflow_add-entry : goal.overflow_add-entry
 overflow_add-entry c =
     let P = c.args.checked.now in
     let h = c.args.head in
-    let low : c.loop-part.part < length (carried P h) = omega (arith, c.loop-part-test.true, c.carried_count-part-end.ensures.count) in
-    omega (arith, carried_inside P h c.loop-part.part low, rows_half P, c.loop-part-test.true, c.carried_count-part-end.ensures.few)
+    let low : c.loop-part.part < length (carried P h) =
+    omega (arith, c.loop-part-test.true, c.carried_count-part-end.ensures.count) in
+    omega (
+      arith,
+      carried_inside P h c.loop-part.part low,
+      rows_half P,
+      c.loop-part-test.true,
+      c.carried_count-part-end.ensures.few,
+    )

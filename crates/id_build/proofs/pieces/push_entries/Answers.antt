@@ -15,9 +15,12 @@ loop-import-preserved c =
     let e = c.args.place in
     let xs = c.loop-import.pieces.items in
     let one = c.in_ok-push.ensures ∙ ap (λ k. xs ++ piece (Plain (Merge k)) e ∷ []) c.port_at.ensures in
-    for_each-next c.args.checked.now Merge e c.loop-import.import-index c.args.imports.now xs c.push.new.pieces.items _ c.loop-import-test.true
+    for_each-next c.args.checked.now Merge e c.loop-import.import-index c.args.imports.now xs c.push.new.pieces.items _
+    c.loop-import-test.true
     c.loop-import.invariant one
 
 pub returns : goal.returns
-returns c = rest_done (for_each c.args.checked.now Merge c.args.place) c.loop-import.import-index c.args.imports.now c.loop-import.pieces.items _ refl
+returns c =
+    rest_done (for_each c.args.checked.now Merge c.args.place) c.loop-import.import-index c.args.imports.now
+    c.loop-import.pieces.items _ refl
     c.loop-import-test.false c.loop-import.invariant

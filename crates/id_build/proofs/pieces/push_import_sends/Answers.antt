@@ -10,9 +10,12 @@ loop-part-init c = refl
 
 pub loop-part-preserved : goal.loop-part-preserved
 loop-part-preserved c =
-    import_entries-next (send_to c.args.checked.now c.args.place) c.args.entries c.loop-part.part c.args.imports.now c.loop-part.pieces.items
+    import_entries-next (send_to c.args.checked.now c.args.place) c.args.entries c.loop-part.part c.args.imports.now
+    c.loop-part.pieces.items
     c.push_send.new.pieces.items _ c.loop-part-test.true c.loop-part.invariant c.in_ok-push_send.ensures
 
 pub returns : goal.returns
-returns c = rest_done (λ z. map (send_to c.args.checked.now c.args.place) (import_entries c.args.entries c.loop-part.part z)) c.loop-part.part c.args.imports.now
+returns c =
+    rest_done (λ z. map (send_to c.args.checked.now c.args.place) (import_entries c.args.entries c.loop-part.part z))
+    c.loop-part.part c.args.imports.now
     c.loop-part.pieces.items _ refl c.loop-part-test.false c.loop-part.invariant

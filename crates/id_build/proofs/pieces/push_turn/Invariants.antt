@@ -10,9 +10,11 @@ use Rattle.id_build.proofs.pieces.push_turn.Given as goal
 abbrev pub invariant-loop-part : goal.invariant-loop-part
 invariant-loop-part l =
     l.pieces.items ++ for_each l.checked Next l.place (drop l.part (carried l.checked l.head) ++ l.imports)
-    ≡ l.fn.pieces.items ++ piece (Plain (Next Signal)) l.place ∷ for_each l.checked Next l.place (carried l.checked l.head ++ l.imports)
+    ≡ l.fn.pieces.items ++ piece (Plain (Next Signal)) l.place
+    ∷ for_each l.checked Next l.place (carried l.checked l.head ++ l.imports)
 
 abbrev pub invariant-loop-import : goal.invariant-loop-import
 invariant-loop-import l =
     l.pieces.items ++ for_each l.checked Next l.place (drop l.import-index l.imports)
-    ≡ l.fn.pieces.items ++ piece (Plain (Next Signal)) l.place ∷ for_each l.checked Next l.place (carried l.checked l.head ++ l.imports)
+    ≡ l.fn.pieces.items ++ piece (Plain (Next Signal)) l.place
+    ∷ for_each l.checked Next l.place (carried l.checked l.head ++ l.imports)

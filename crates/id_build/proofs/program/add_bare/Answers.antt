@@ -26,4 +26,5 @@ returns-clause-bare c =
     let S = c.args.slots.now in
     let own = c.as_slice.ensures.value ∙ c.in_ok-push_pieces.ensures
     ∙ ap (λ (x : List Piece). x ++ made S.kernel.now.checked.now c.args.n) c.requires in
-    c.in_ok-push_bare.ensures ∙ ap (λ (x : List Piece). c.args.instrs.now.items ++ instrs_from S.firsts.items 0 x []) own
+    c.in_ok-push_bare.ensures
+    ∙ ap (λ (x : List Piece). c.args.instrs.now.items ++ instrs_from S.firsts.items 0 x []) own

@@ -31,4 +31,5 @@ returns c =
     let order = c.as_slice-order.result.now in
     let is : order ≡ order_of P = c.as_slice-order.ensures.value ∙ k.ordered in
     c.loop-n.invariant.instrs
-    ∙ ap (λ (z : List ℕ). instrs_from c.args.slots.now.firsts.items 0 (pieces_in P z) []) (take_all c.loop-n.n-index order c.loop-n-test.false ∙ is)
+    ∙ ap (λ (z : List ℕ). instrs_from c.args.slots.now.firsts.items 0 (pieces_in P z) [])
+    (take_all c.loop-n.n-index order c.loop-n-test.false ∙ is)

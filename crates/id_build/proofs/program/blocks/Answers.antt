@@ -13,7 +13,8 @@ returns c =
     let P = c.args.slots.now.kernel.now.checked.now in
     let f = block_of P (number_by c.args.slots.now.firsts.items) in
     let n = c.loop-head.head in
-    let end : n ≡ length (rows P) = omega (arith, c.loop-head.auto.head-end, c.loop-head-test.false, c.len-head-end.ensures) in
+    let end : n ≡ length (rows P) =
+    omega (arith, c.loop-head.auto.head-end, c.loop-head-test.false, c.len-head-end.ensures) in
     c.in_ok-push_loops.ensures
     ∙ ap (λ l. l ++ map f (loop_heads P)) c.loop-head.invariant
     ∙ sym (map-append f (heads_below (rows P) n) (loop_heads P))

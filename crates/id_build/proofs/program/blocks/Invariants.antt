@@ -7,4 +7,6 @@ use Rattle.id_build.specs.Schemas.{block_of}
 use Rattle.id_build.proofs.program.blocks.Given as goal
 
 abbrev pub invariant-loop-head : goal.invariant-loop-head
-invariant-loop-head l = l.blocks.items ≡ map (block_of l.slots.kernel.now.checked.now (number_by l.slots.firsts.items)) (heads_below (rows l.slots.kernel.now.checked.now) l.head)
+invariant-loop-head l =
+    l.blocks.items ≡ map (block_of l.slots.kernel.now.checked.now (number_by l.slots.firsts.items))
+    (heads_below (rows l.slots.kernel.now.checked.now) l.head)

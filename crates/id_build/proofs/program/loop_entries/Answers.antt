@@ -19,7 +19,8 @@ push_imported-requires c =
     let order = order_of P in
     let z = loop_head_is (node P h) c.requires in
     let fit = entries_fit P order F (is_order P order refl) (firsts_in S order refl) (few_in S order refl) in
-    subst (λ e. number_by F e (length (imports_of P h)) ≤ 2 ^ 32) (sym c.entries_row-imported.ensures) (fit h z.0 (head_inside P h c.requires) z.1)
+    subst (λ e. number_by F e (length (imports_of P h)) ≤ 2 ^ 32) (sym c.entries_row-imported.ensures)
+    (fit h z.0 (head_inside P h c.requires) z.1)
 
 pub returns : goal.returns
 returns c =
@@ -33,6 +34,7 @@ returns c =
     let e = c.entries_row-imported.result in
     let z = loop_head_is (node P h) c.requires in
     c.in_ok-push_imported.ensures
-    ∙ ap (λ xs. xs ++ map f (ws e)) (c.in_ok-push_variables.ensures ∙ ap (λ (xs : List ℕ). xs ++ map f vs) c.new-entries.ensures.items)
+    ∙ ap (λ xs. xs ++ map f (ws e)) (c.in_ok-push_variables.ensures
+    ∙ ap (λ (xs : List ℕ). xs ++ map f vs) c.new-entries.ensures.items)
     ∙ ap (λ k. map f vs ++ map f (ws k)) c.entries_row-imported.ensures ∙ sym (map-append f vs (ws (entries_row P h)))
     ∙ ap (map f) (append_assoc cs bs (ws (entries_row P h))) ∙ ap (λ n. map f (entries_by P h n)) (sym z.1)

@@ -53,7 +53,8 @@ loop-n-preserved c =
     record {
       count = omega (arith, c.loop-n.invariant.count, count_in-next P order i h, c.made_count-count.ensures.count);
       many = omega (arith, length-set {A = ℕ});
-      firsts = first_in-next P order c.loop-n.firsts.items i c.loop-n.count o.differ h (omega (arith, low, many)) c.loop-n.invariant.count
+      firsts = first_in-next P order c.loop-n.firsts.items i c.loop-n.count o.differ h (omega (arith, low, many))
+          c.loop-n.invariant.count
           c.loop-n.invariant.firsts;
       few = omega arith;
     }
@@ -65,8 +66,8 @@ returns-clause-count c =
     let P = k.checked.now in
     let order = c.as_slice-order.result.now in
     c.loop-n.invariant.count
-    ∙ ap (λ o. length (pieces_in P o)) (take_all c.loop-n.n-index order c.loop-n-test.false ∙ c.as_slice-order.ensures.value ∙ k.ordered)
-    ∙ length-pieces_in P
+    ∙ ap (λ o. length (pieces_in P o)) (take_all c.loop-n.n-index order c.loop-n-test.false
+    ∙ c.as_slice-order.ensures.value ∙ k.ordered) ∙ length-pieces_in P
 
 pub returns-clause-firsts : goal.returns-clause-firsts
 returns-clause-firsts c =

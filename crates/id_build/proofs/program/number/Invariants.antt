@@ -8,6 +8,7 @@ abbrev pub invariant-loop-n : goal.invariant-loop-n
 invariant-loop-n l = record {
   count : l.count ≡ length (pieces_in l.kernel.checked.now (take l.n-index l.order));
   many : length l.firsts.items ≡ length (rows l.kernel.checked.now);
-  firsts : (m : ℕ) → m < length (rows l.kernel.checked.now) → number_by l.firsts.items m 0 ≡ first_in l.kernel.checked.now 0 (take l.n-index l.order) m;
+  firsts : (m : ℕ) → m < length (rows l.kernel.checked.now)
+      → number_by l.firsts.items m 0 ≡ first_in l.kernel.checked.now 0 (take l.n-index l.order) m;
   few : l.count ≤ 1000000;
 }

@@ -9,7 +9,8 @@ use Rattle.id_build.specs.Made.{number_by}
 use Rattle.id_build.specs.Rows.{node}
 use Rattle.id_desugar.specs.Ends.{end_of}
 use Rattle.id_desugar.proofs.EndsLemmas.{begun_inside}
-use Rattle.id_build.proofs.BlocksLemmas.{end_behind, entries_next, is_taken, none_past, params_between, params_entries, params_start, params_stop}
+use Rattle.id_build.proofs.BlocksLemmas.{end_behind, entries_next, is_taken, none_past, params_between, params_entries}
+use Rattle.id_build.proofs.BlocksLemmas.{params_start, params_stop}
 use Rattle.id_build.proofs.program.params.Goals as goal
 use Rattle.id_build.proofs.program.params.Goals.{else-loop-n-test, then-loop-n-test+then-not-is_param}
 
@@ -33,7 +34,8 @@ loop-n-preserved c =
     ap (λ (r : Row). is_param r.node) (sym c.row_at.ensures) ∙ sym c.is_param.ensures ∙ c.if-not-is_param.false in
     let within = begun_inside P h (omega (arith, c.end_of-end.ensures, c.if-end-head.false)) in
     let taken = is_taken P h n within c.requires low high is in
-    entries_next P F c.loop-n.entries.items c.push_param.new.entries.items h n taken c.loop-n.invariant c.in_ok-push_param.ensures
+    entries_next P F c.loop-n.entries.items c.push_param.new.entries.items h n taken c.loop-n.invariant
+    c.in_ok-push_param.ensures
 
 pub returns : goal.returns
 returns c =
@@ -53,7 +55,8 @@ returns c =
           )
       | then-loop-n-test+then-not-is_param w ↦ (
           let high : n < end_of P h = omega (arith, w.loop-n-test.true, ends) in
-          let no = ap (λ (r : Row). is_param r.node) (sym w.row_at.ensures) ∙ sym w.is_param.ensures ∙ w.if-not-is_param.true in
+          let no = ap (λ (r : Row). is_param r.node) (sym w.row_at.ensures) ∙ sym w.is_param.ensures
+          ∙ w.if-not-is_param.true in
           params_stop P h n l t low high no
           )
     ] in
@@ -68,5 +71,6 @@ returns-then-end-head c =
     elim (cases_lt h (length (rows P))) [
       | inl l ↦ absurd (omega (arith, end_behind P h l c.requires, c.end_of-end.ensures, c.if-end-head.true))
       | inr l ↦
-          c.new-entries.ensures.items ∙ ap (map (λ x. number_by F x 0)) (sym (none_past P h (length (rows P)) l)) ∙ sym (params_entries P F h c.requires)
+          c.new-entries.ensures.items ∙ ap (map (λ x. number_by F x 0)) (sym (none_past P h (length (rows P)) l))
+          ∙ sym (params_entries P F h c.requires)
     ]

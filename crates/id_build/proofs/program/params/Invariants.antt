@@ -6,4 +6,6 @@ use Rattle.id_build.specs.Made.{number_by}
 use Rattle.id_build.proofs.program.params.Given as goal
 
 abbrev pub invariant-loop-n : goal.invariant-loop-n
-invariant-loop-n l = l.entries.items ≡ map (λ x. number_by l.slots.firsts.items x 0) (params_below (rows l.slots.kernel.now.checked.now) l.head l.n)
+invariant-loop-n l =
+    l.entries.items
+    ≡ map (λ x. number_by l.slots.firsts.items x 0) (params_below (rows l.slots.kernel.now.checked.now) l.head l.n)

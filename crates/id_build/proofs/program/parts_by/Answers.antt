@@ -24,5 +24,6 @@ returns c =
     let is : c.in_ok-instrs.instrs.items ≡ G.instrs = c.in_ok-instrs.ensures in
     let A : List Block → Type 0 = λ x. IsOwn P (parts x c.in_ok-instrs.instrs.items) in
     let B : List Instr → Type 0 = λ x. IsOwn P (parts G.blocks x) in
-    let few : length c.in_ok-instrs.instrs.items ≤ 1000000 = omega (arith, ap length is, length-graph_by P order F, few_in S order refl) in
+    let few : length c.in_ok-instrs.instrs.items ≤ 1000000 =
+    omega (arith, ap length is, length-graph_by P order F, few_in S order refl) in
     record { parts = subst A (sym bs) (subst B (sym is) whole); few = few }

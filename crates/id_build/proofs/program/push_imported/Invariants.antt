@@ -9,4 +9,6 @@ abbrev pub invariant-loop-part : goal.invariant-loop-part
 invariant-loop-part l =
     l.entries.items ++ map (λ (q : Entry). number_by l.slots.firsts.items q.row q.part)
     (import_entries l.imported l.part (drop l.part (imports_of l.slots.kernel.now.checked.now l.head)))
-    ≡ l.fn.entries.items ++ map (λ (q : Entry). number_by l.slots.firsts.items q.row q.part) (import_entries l.imported 0 (imports_of l.slots.kernel.now.checked.now l.head))
+    ≡ l.fn.entries.items
+    ++ map (λ (q : Entry). number_by l.slots.firsts.items q.row q.part)
+    (import_entries l.imported 0 (imports_of l.slots.kernel.now.checked.now l.head))

@@ -22,11 +22,13 @@ loop-head-preserved c =
     let old = c.args.blocks.now.items in
     c.in_ok-add_loop.ensures ∙ ap (λ (l : List Block). l ++ f h ∷ []) c.loop-head.invariant
     ∙ append_assoc old (map f (take i hs)) (f h ∷ [])
-    ∙ ap (λ l. old ++ l) (sym (map-append f (take i hs) (h ∷ [])) ∙ ap (map f) (sym (take_more hs i 0 c.loop-head-test.true)))
+    ∙ ap (λ l. old ++ l) (sym (map-append f (take i hs) (h ∷ []))
+    ∙ ap (map f) (sym (take_more hs i 0 c.loop-head-test.true)))
 
 pub returns : goal.returns
 returns c =
     let k = c.args.slots.now.kernel.now in
     let f = block_of k.checked.now (number_by c.args.slots.now.firsts.items) in
     let all = take_all c.loop-head.head-index c.as_slice-heads.result.now c.loop-head-test.false in
-    c.loop-head.invariant ∙ ap (λ l. c.args.blocks.now.items ++ map f l) (all ∙ c.as_slice-heads.ensures.value ∙ k.headed)
+    c.loop-head.invariant
+    ∙ ap (λ l. c.args.blocks.now.items ++ map f l) (all ∙ c.as_slice-heads.ensures.value ∙ k.headed)

@@ -1,6 +1,8 @@
--- What a loop carries on beside its variables and these stand one behind another, from the row behind its head up to those
+-- What a loop carries on beside its variables and these stand one behind another, from the row behind its head up to
+-- those
 -- of its imports.
-use Rattle.std.proofs.Common.{◌≡◌, ◌∙◌, ◌+◌, ◌-◌, ◌<◌, ◌≤◌, ◌++◌, ◌∷◌, [], List, ℕ, ap, add-zero, arith, length, length-append, map, drop, refl, sym}
+use Rattle.std.proofs.Common.{◌≡◌, ◌∙◌, ◌+◌, ◌-◌, ◌<◌, ◌≤◌, ◌++◌, ◌∷◌, [], List, ℕ, ap, add-zero, arith, length}
+use Rattle.std.proofs.Common.{length-append, map, drop, refl, sym}
 use Rattle.id_desugar.specs.Regions.{carried, nexts_of}
 use Rattle.id_build.specs.Made.{number_by}
 use Rattle.id_build.specs.Rows.{Entry, entries_row, variable_entries}
@@ -16,8 +18,10 @@ loop-variable-init c =
     let h = c.args.head + 1 in
     let none : h - h ≡ 0 = omega arith in
     let old : List ℕ = c.args.entries.now.items in
-    let ns = carried c.args.slots.now.kernel.now.checked.now c.args.head ++ nexts_of c.args.slots.now.kernel.now.checked.now c.args.head in
-    ap (λ k. old ++ map f (variable_entries (h + k) (drop k ns))) none ∙ ap (λ v. old ++ map f (variable_entries v ns)) (add-zero h)
+    let ns = carried c.args.slots.now.kernel.now.checked.now c.args.head
+    ++ nexts_of c.args.slots.now.kernel.now.checked.now c.args.head in
+    ap (λ k. old ++ map f (variable_entries (h + k) (drop k ns))) none
+    ∙ ap (λ v. old ++ map f (variable_entries v ns)) (add-zero h)
 
 pub loop-variable-preserved : goal.loop-variable-preserved
 loop-variable-preserved c =
@@ -45,8 +49,10 @@ returns c =
     let f : Entry → ℕ = λ q. number_by c.args.slots.now.firsts.items q.row q.part in
     let i = c.loop-variable.variable - (h + 1) in
     let ns = carried P h ++ nexts_of P h in
-    let end : length ns ≤ i = omega (arith, c.loop-variable-test.false, c.requires, length-append (carried P h) (nexts_of P h)) in
-    rest_done (λ z. map f (variable_entries (h + 1 + i) z)) i ns c.loop-variable.entries.items _ refl end c.loop-variable.invariant
+    let end : length ns ≤ i =
+    omega (arith, c.loop-variable-test.false, c.requires, length-append (carried P h) (nexts_of P h)) in
+    rest_done (λ z. map f (variable_entries (h + 1 + i) z)) i ns c.loop-variable.entries.items _ refl end
+    c.loop-variable.invariant
     ∙ ap (λ (z : List ℕ). c.args.entries.now.items ++ z) (carried_entries P c.args.slots.now.firsts.items h)
 
 pub overflow_cast-number_at : goal.overflow_cast-number_at

@@ -8,5 +8,10 @@ use Rattle.id_build.proofs.program.push_variables.Given as goal
 abbrev pub invariant-loop-variable : goal.invariant-loop-variable
 invariant-loop-variable l =
     l.entries.items ++ map (λ (q : Entry). number_by l.slots.firsts.items q.row q.part)
-    (variable_entries (l.head + 1 + (l.variable - (l.head + 1))) (drop (l.variable - (l.head + 1)) (carried l.slots.kernel.now.checked.now l.head ++ nexts_of l.slots.kernel.now.checked.now l.head)))
-    ≡ l.fn.entries.items ++ map (λ (q : Entry). number_by l.slots.firsts.items q.row q.part) (variable_entries (l.head + 1) (carried l.slots.kernel.now.checked.now l.head ++ nexts_of l.slots.kernel.now.checked.now l.head))
+    (variable_entries (l.head + 1 + (l.variable - (l.head + 1)))
+    (drop (l.variable - (l.head + 1)) (carried l.slots.kernel.now.checked.now l.head
+    ++ nexts_of l.slots.kernel.now.checked.now l.head)))
+    ≡ l.fn.entries.items
+    ++ map (λ (q : Entry). number_by l.slots.firsts.items q.row q.part)
+    (variable_entries (l.head + 1) (carried l.slots.kernel.now.checked.now l.head
+    ++ nexts_of l.slots.kernel.now.checked.now l.head))

@@ -9,7 +9,8 @@ use Rattle.id_build.specs.Made.{arc_of, arcs_in, connected, instrs_from, IsBetwe
 use Rattle.id_build.specs.Rows.{feeds}
 use Rattle.id_build.proofs.BuildableLemmas.{IsBuildable-checked, is_order}
 use Rattle.id_build.proofs.PushedLemmas.{arcs_in-at}
-use Rattle.id_build.proofs.JoinedLemmas.{AreBetween-left, AreBetween-right, instrs_from-append, length-connected, length-instrs_from}
+use Rattle.id_build.proofs.JoinedLemmas.{AreBetween-left, AreBetween-right, instrs_from-append, length-connected}
+use Rattle.id_build.proofs.JoinedLemmas.{length-instrs_from}
 use Rattle.id_build.proofs.PassesLemmas.{few_in, firsts_in}
 use Rattle.id_build.proofs.SchemasLemmas.{IsFrom-arcs_in}
 use Rattle.id_build.proofs.program.with_arcs.Goals as goal
@@ -67,7 +68,9 @@ loop-n-preserved c =
       instrs = ap (λ (z : List Instr). fold connected z rest) made
           ∙ sym (fold-append connected is own rest) ∙ ap (fold connected is) (sym here) ∙ c.loop-n.invariant.instrs;
       long = ap length made ∙ length-connected is own ∙ c.loop-n.invariant.long;
-      between = AreBetween-right (length (pieces_in P order)) own rest (subst (All (IsBetween (length (pieces_in P order)))) here c.loop-n.invariant.between);
+      between =
+          AreBetween-right (length (pieces_in P order)) own rest
+          (subst (All (IsBetween (length (pieces_in P order)))) here c.loop-n.invariant.between);
     }
 
 pub returns : goal.returns

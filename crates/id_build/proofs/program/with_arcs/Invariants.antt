@@ -9,7 +9,8 @@ abbrev pub invariant-loop-n : goal.invariant-loop-n
 invariant-loop-n l = record {
   list : l.arcs.items ≡ [];
   instrs : fold connected l.instrs.items (arcs_in (program_of l.slots) (firsts_of l.slots) (drop l.n-index l.order))
-      ≡ instrs_from (firsts_of l.slots) 0 (pieces_in (program_of l.slots) l.order) (arcs_in (program_of l.slots) (firsts_of l.slots) l.order);
+      ≡ instrs_from (firsts_of l.slots) 0 (pieces_in (program_of l.slots) l.order)
+      (arcs_in (program_of l.slots) (firsts_of l.slots) l.order);
   long : length l.instrs.items ≡ length (pieces_in (program_of l.slots) l.order);
   between : All (IsBetween (length (pieces_in (program_of l.slots) l.order)))
       (arcs_in (program_of l.slots) (firsts_of l.slots) (drop l.n-index l.order));

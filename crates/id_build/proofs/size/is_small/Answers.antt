@@ -18,14 +18,23 @@ returns-then-size-gt1000000 c =
     let P = c.args.kernel.now.checked.now in
     let more = size_below-within P c.loop-n.n (omega (arith, c.loop-n-test.true, c.len-n-end.ensures)) in (
       (λ h. cc),
-      λ small. (let no : ⊥ = omega (arith, small, more, c.loop-n.invariant.is, c.made_count-size.ensures.count, c.if-size-gt1000000.true) in
+      λ small. (let no : ⊥ =
+          omega (
+            arith,
+            small,
+            more,
+            c.loop-n.invariant.is,
+            c.made_count-size.ensures.count,
+            c.if-size-gt1000000.true,
+          ) in
           absurd no),
     )
 
 pub returns : goal.returns
 returns c =
     let P = c.args.kernel.now.checked.now in
-    let end : c.loop-n.n ≡ length (rows P) = omega (arith, c.loop-n.auto.n-end, c.loop-n-test.false, c.len-n-end.ensures) in
+    let end : c.loop-n.n ≡ length (rows P) =
+    omega (arith, c.loop-n.auto.n-end, c.loop-n-test.false, c.len-n-end.ensures) in
     let all = c.loop-n.invariant.is ∙ ap (size_below P) end in
     let small : size P ≤ 1000000 = omega (arith, all, c.loop-n.invariant.small) in
     ((λ h. small), λ h. search)

@@ -11,8 +11,10 @@ loop-n-preserved c =
     let P = c.args.checked.now in
     let n = c.loop-n.n in
     let e = place P n in
-    let makes : c.in-Some.count ≡ length (made P n) = sym (c.in-Some.ensures.some P n e) ∙ ap (λ r. length (made_of P n e r.node)) c.row_at.ensures in
-    let here : is_plain (node P n) ≡ true = ap (λ r. is_plain r.node) (sym c.row_at.ensures) ∙ c.in-Some.ensures.exact.0 refl in
+    let makes : c.in-Some.count ≡ length (made P n) =
+    sym (c.in-Some.ensures.some P n e) ∙ ap (λ r. length (made_of P n e r.node)) c.row_at.ensures in
+    let here : is_plain (node P n) ≡ true =
+    ap (λ r. is_plain r.node) (sym c.row_at.ensures) ∙ c.in-Some.ensures.exact.0 refl in
     record {
       is = omega (arith, makes, size_below-next P n, c.loop-n.invariant.is);
       small = omega (arith, c.if-size-gt1000000.false);
@@ -28,12 +30,21 @@ returns-then-size-gt1000000 c =
     let n = c.loop-n.n in
     let makes : c.in-Some.count ≡ length (made P n) = sym (c.in-Some.ensures.some P n (place P n)) ∙
     ap (λ r. length (made_of P n (place P n) r.node)) c.row_at.ensures in
-    let more = size_below-within P n (omega (arith, c.loop-n-test.true, c.len-n-end.ensures)) in
-    ((λ h. cc), λ both. (let no : ⊥ = omega (arith, both.1, more, c.loop-n.invariant.is, makes, c.if-size-gt1000000.true) in absurd no))
+    let more = size_below-within P n (omega (arith, c.loop-n-test.true, c.len-n-end.ensures)) in (
+      (λ h. cc),
+      λ both. (let no : ⊥ = omega (arith, both.1, more, c.loop-n.invariant.is, makes, c.if-size-gt1000000.true) in
+          absurd no),
+    )
 
 pub returns : goal.returns
 returns c =
     let P = c.args.checked.now in
-    let end : c.loop-n.n ≡ length (rows P) = omega (arith, c.loop-n.auto.n-end, c.loop-n-test.false, c.len-n-end.ensures) in
-    let all = c.loop-n.invariant.is ∙ ap (size_below P) end in
-    ((λ h. ((λ i l. c.loop-n.invariant.plain i (omega (arith, l, end))), omega (arith, all, c.loop-n.invariant.small))), λ h. search)
+    let end : c.loop-n.n ≡ length (rows P) =
+    omega (arith, c.loop-n.auto.n-end, c.loop-n-test.false, c.len-n-end.ensures) in
+    let all = c.loop-n.invariant.is ∙ ap (size_below P) end in (
+      (λ h. (
+        (λ i l. c.loop-n.invariant.plain i (omega (arith, l, end))),
+        omega (arith, all, c.loop-n.invariant.small),
+      )),
+      λ h. search,
+    )

@@ -13,7 +13,8 @@ loop-n-preserved c =
       most = omega (
         arith,
         c.loop-n.invariant.most,
-        subst (λ (Q : Checked). length (made Q c.loop-n.n) ≤ c.most_made-most.result) c.in_ok-ends.ensures c.most_made-most.ensures.most,
+        subst (λ (Q : Checked). length (made Q c.loop-n.n) ≤ c.most_made-most.result) c.in_ok-ends.ensures
+            c.most_made-most.ensures.most,
         size_below-next P c.loop-n.n,
       );
       small = omega (arith, c.if-most-gt1000000.false);
@@ -22,6 +23,8 @@ loop-n-preserved c =
 pub returns : goal.returns
 returns c =
     let P = c.args.checked.now in
-    let end : c.loop-n.n ≡ length (rows P) = omega (arith, c.loop-n.auto.n-end, c.loop-n-test.false, c.len-n-end.ensures) in
-    let all : size_below P (length (rows P)) ≤ c.loop-n.most = subst (λ m. size_below P m ≤ c.loop-n.most) end c.loop-n.invariant.most in
+    let end : c.loop-n.n ≡ length (rows P) =
+    omega (arith, c.loop-n.auto.n-end, c.loop-n-test.false, c.len-n-end.ensures) in
+    let all : size_below P (length (rows P)) ≤ c.loop-n.most =
+    subst (λ m. size_below P m ≤ c.loop-n.most) end c.loop-n.invariant.most in
     λ yes. omega (arith, all, c.loop-n.invariant.small)

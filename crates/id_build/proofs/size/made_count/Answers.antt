@@ -26,14 +26,24 @@ returns-in-Split-clause-count c =
     let P = c.args.kernel.now.checked.now in
     let n = c.args.n in
     let is : node P n ≡ Split c.in-Split.test = ap (λ r. r.node) (sym c.row_at-row.ensures) ∙ c.in-Split.is in
-    omega (arith, ap length c.imports_at.ensures, length-split P n (place P n) c.in-Split.test, ap (λ m. length (made_of P n (place P n) m)) is)
+    omega (
+      arith,
+      ap length c.imports_at.ensures,
+      length-split P n (place P n) c.in-Split.test,
+      ap (λ m. length (made_of P n (place P n) m)) is,
+    )
 
 pub returns-in-Switches-clause-count : goal.returns-in-Switches-clause-count
 returns-in-Switches-clause-count c =
     let P = c.args.kernel.now.checked.now in
     let n = c.args.n in
     let is : node P n ≡ Switches c.in-Switches.test = ap (λ r. r.node) (sym c.row_at-row.ensures) ∙ c.in-Switches.is in
-    omega (arith, ap length c.imports_at-in-Switches.ensures, length-switches P n (place P n) c.in-Switches.test, ap (λ m. length (made_of P n (place P n) m)) is)
+    omega (
+      arith,
+      ap length c.imports_at-in-Switches.ensures,
+      length-switches P n (place P n) c.in-Switches.test,
+      ap (λ m. length (made_of P n (place P n) m)) is,
+    )
 
 pub returns-in-Start-clause-count : goal.returns-in-Start-clause-count
 returns-in-Start-clause-count c =

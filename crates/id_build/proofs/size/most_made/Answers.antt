@@ -17,8 +17,10 @@ returns-in-Split-clause-most c =
 pub returns-in-Switches-clause-most : goal.returns-in-Switches-clause-most
 returns-in-Switches-clause-most c =
     let P = c.args.spans.now.ends.checked.now in
-    let is : node P c.args.n ≡ Switches c.in-Switches.test = ap (λ r. r.node) (sym c.row_at-row.ensures) ∙ c.in-Switches.is in
-    let same : end_of P c.row_at-row.result.block - (c.row_at-row.result.block + 1) ≡ end_of P (block P c.args.n) - (block P c.args.n + 1) =
+    let is : node P c.args.n ≡ Switches c.in-Switches.test =
+    ap (λ r. r.node) (sym c.row_at-row.ensures) ∙ c.in-Switches.is in
+    let same : end_of P c.row_at-row.result.block - (c.row_at-row.result.block + 1)
+    ≡ end_of P (block P c.args.n) - (block P c.args.n + 1) =
     ap (λ (r : Row). end_of P r.block - (r.block + 1)) c.row_at-row.ensures in
     omega (arith, same, c.rows_in-in-Switches.ensures.rows, switches-most P c.args.n c.in-Switches.test is)
 
@@ -38,7 +40,8 @@ pub returns-in-Entries-clause-most : goal.returns-in-Entries-clause-most
 returns-in-Entries-clause-most c =
     let P = c.args.spans.now.ends.checked.now in
     let is : node P c.args.n ≡ Entries = ap (λ r. r.node) (sym c.row_at-row.ensures) ∙ c.in-Entries.is in
-    let same : end_of P c.row_at-row.result.block - (c.row_at-row.result.block + 1) ≡ end_of P (block P c.args.n) - (block P c.args.n + 1) =
+    let same : end_of P c.row_at-row.result.block - (c.row_at-row.result.block + 1)
+    ≡ end_of P (block P c.args.n) - (block P c.args.n + 1) =
     ap (λ (r : Row). end_of P r.block - (r.block + 1)) c.row_at-row.ensures in
     omega (arith, same, c.rows_in-in-Entries.ensures.rows, entries-most P c.args.n is)
 
@@ -46,6 +49,7 @@ pub returns-in-Turn-clause-most : goal.returns-in-Turn-clause-most
 returns-in-Turn-clause-most c =
     let P = c.args.spans.now.ends.checked.now in
     let is : node P c.args.n ≡ Turn = ap (λ r. r.node) (sym c.row_at-row.ensures) ∙ c.in-Turn.is in
-    let same : end_of P c.row_at-row.result.block - (c.row_at-row.result.block + 1) ≡ end_of P (block P c.args.n) - (block P c.args.n + 1) =
+    let same : end_of P c.row_at-row.result.block - (c.row_at-row.result.block + 1)
+    ≡ end_of P (block P c.args.n) - (block P c.args.n + 1) =
     ap (λ (r : Row). end_of P r.block - (r.block + 1)) c.row_at-row.ensures in
     omega (arith, same, c.rows_in-in-Turn.ensures.rows, turn-most P c.args.n is)

@@ -14,10 +14,12 @@ loop-slot-preserved c =
     let low : h < 2 ^ 32 = search rules in
     let less : get_or bs n 0 < 2 ^ 32 = search rules in
     record {
-      short = AreShort-noted (record { head = h; binder = get_or bs n 0 }) n (get same_import c.loop-slot.numbers) (get same_import c.note.new.numbers)
+      short = AreShort-noted (record { head = h; binder = get_or bs n 0 }) n (get same_import c.loop-slot.numbers)
+          (get same_import c.note.new.numbers)
           low less c.in_ok-note.ensures c.loop-slot.invariant.short;
       numbers = λ i.
           c.in_ok-note.ensures i
-          ∙ ap (λ o. option_or o (noted (record { head = h; binder = get_or bs n 0 }) n i)) (c.loop-slot.invariant.numbers i)
+          ∙ ap (λ o. option_or o (noted (record { head = h; binder = get_or bs n 0 }) n i))
+          (c.loop-slot.invariant.numbers i)
           ∙ noted_all-next h bs n i (get same_import c.args.numbers.now i) c.loop-slot-test.true;
     }

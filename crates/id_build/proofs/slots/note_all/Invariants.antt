@@ -9,5 +9,7 @@ use Rattle.id_build.proofs.slots.note_all.Given as goal
 abbrev pub invariant-loop-slot : goal.invariant-loop-slot
 invariant-loop-slot l = record {
   short : AreShort (get same_import l.numbers);
-  numbers : (i : Import) → get same_import l.numbers i ≡ option_or (get same_import l.fn.numbers i) (noted_all l.head (take l.slot l.imports) i);
+  numbers : (i : Import)
+      → get same_import l.numbers i
+      ≡ option_or (get same_import l.fn.numbers i) (noted_all l.head (take l.slot l.imports) i);
 }

@@ -1,4 +1,5 @@
-use Rattle.std.proofs.Common.{rules, ◌≡◌, ◌⊎◌, ◌<◌, ◌≢◌, inl, inr, ℕ, List, [], ◌++◌, ◌∷◌, Bool, true, false, if◌then◌else◌, sym, ◌∙◌, ap, subst, get_or, set, length, arith}
+use Rattle.std.proofs.Common.{rules, ◌≡◌, ◌⊎◌, ◌<◌, ◌≢◌, inl, inr, ℕ, List, [], ◌++◌, ◌∷◌, Bool, true, false}
+use Rattle.std.proofs.Common.{if◌then◌else◌, sym, ◌∙◌, ap, subst, get_or, set, length, arith}
 use Rattle.std.proofs.lemmas.Bool.{cases_eq}
 use Rattle.std.proofs.lemmas.List.{nil_from_length, length-set, get_or-set_same, get_or-set_other}
 use Rattle.id_check.specs.Kinds.{Link, Nowhere}
@@ -9,12 +10,15 @@ use Rattle.id_check.proofs.ChainsLemmas.{filling_step, row_last, row_left}
 use Rattle.id_check.proofs.kinds.fill.Goals as goal
 use Rattle.id_check.proofs.kinds.fill.Goals.{then-pass, else-pass}
 
-last_below : (ps qs : List Pass) (p : Pass) (n : ℕ) → ps ≡ qs ++ p ∷ [] → ((q : ℕ) → Among q (rows_of ps) → q < n) → p.row < n
+last_below : (ps qs : List Pass) (p : Pass) (n : ℕ) → ps ≡ qs ++ p ∷ [] → ((q : ℕ) → Among q (rows_of ps) → q < n)
+    → p.row < n
 last_below ps qs p n e h = h p.row (row_last ps qs p e)
 
-same_but : (ks js : List Link) (p i : ℕ) (k : Link) → p < length ks → IsEnd k → IsEnd (get_or ks i Nowhere) ⊎ (get_or ks i Nowhere ≡ get_or js i Nowhere)
+same_but : (ks js : List Link) (p i : ℕ) (k : Link) → p < length ks → IsEnd k
+    → IsEnd (get_or ks i Nowhere) ⊎ (get_or ks i Nowhere ≡ get_or js i Nowhere)
     → (i ≡ p) ⊎ (i ≢ p) → IsEnd (get_or (set ks p k) i Nowhere) ⊎ (get_or (set ks p k) i Nowhere ≡ get_or js i Nowhere)
-same_but ks js p i k less t h (inl c) = inl (subst IsEnd (sym (ap (λ z. get_or (set ks p k) z Nowhere) c ∙ get_or-set_same ks p k Nowhere less)) t)
+same_but ks js p i k less t h (inl c) =
+    inl (subst IsEnd (sym (ap (λ z. get_or (set ks p k) z Nowhere) c ∙ get_or-set_same ks p k Nowhere less)) t)
 same_but ks js p i k less t (inl h) (inr c) = inl (subst IsEnd (sym (get_or-set_other ks p i k Nowhere c)) h)
 same_but ks js p i k less t (inr h) (inr c) = inr (get_or-set_other ks p i k Nowhere c ∙ h)
 
@@ -30,7 +34,9 @@ by_false b x k e f = f ∙ ap (λ z. if z then link_within k else k) (sym e)
 
 pub index_mut-requires : goal.index_mut-requires
 index_mut-requires c =
-    let less = last_below c.loop-pass.passed.items c.pop.new.self.items c.in-Some.pass (length c.loop-pass.links.items) c.in-Some.ensures.items
+    let less =
+    last_below c.loop-pass.passed.items c.pop.new.self.items c.in-Some.pass (length c.loop-pass.links.items)
+    c.in-Some.ensures.items
     c.loop-pass.invariant.below in
     omega arith
 
@@ -59,7 +65,8 @@ loop-pass-preserved c =
       filling = λ f n m q g.
           let w = h.filling f n m q g in (
             p.row,
-            subst (λ z. IsFilling f n m qs p.row z (set ks p.row z)) (sym on) (filling_step f n m ps qs p w.0 k ks less e w.1),
+            subst (λ z. IsFilling f n m qs p.row z (set ks p.row z)) (sym on)
+                (filling_step f n m ps qs p w.0 k ks less e w.1),
           );
     }
 

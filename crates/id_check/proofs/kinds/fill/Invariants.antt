@@ -10,7 +10,9 @@ invariant-loop-pass l = record {
   below : (p : ℕ) → Among p (rows_of l.passed.items) → p < length l.links.items;
   long : length l.links.items ≡ length l.initial.links.items;
   is_end : IsEnd l.link;
-  same : (i : ℕ) → IsEnd (get_or l.links.items i Nowhere) ⊎ (get_or l.links.items i Nowhere ≡ get_or l.initial.links.items i Nowhere);
+  same : (i : ℕ)
+      → IsEnd (get_or l.links.items i Nowhere)
+      ⊎ (get_or l.links.items i Nowhere ≡ get_or l.initial.links.items i Nowhere);
   filling : (f : ℕ → Link) (n m q : ℕ) → IsFilling f n m l.initial.passed.items q l.fn.end l.initial.links.items
       → (r : ℕ) × IsFilling f n m l.passed.items r l.link l.links.items;
 }

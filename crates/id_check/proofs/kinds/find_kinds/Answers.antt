@@ -36,7 +36,8 @@ loop-i-preserved c =
     let ks = c.settle.new.links.items in
     let less = subst (λ n. i < n) c.len-i-end.ensures c.loop-i-test.true in
     let going : IsGoing l (length R) (i + 1) ks =
-    subst (λ n. IsGoing l n (i + 1) ks) long (step.going l (subst (λ n. IsGoing l n i c.loop-i.links.items) (sym long) h.going)) in
+    subst (λ n. IsGoing l n (i + 1) ks) long
+    (step.going l (subst (λ n. IsGoing l n i c.loop-i.links.items) (sym long) h.going)) in
     let read : c.index.result.now ≡ get_or ks i Nowhere = c.index.ensures ∙
     get_or_default ks i c.index.result.now Nowhere (subst (λ n. i < n) (sym going.long) less) in
     let kind : IsKind l i c.kind_of.result = subst (IsKind l i) (sym (c.kind_of.ensures ∙ ap kind_of read))
@@ -45,8 +46,10 @@ loop-i-preserved c =
       passed = step.passed;
       targets = step.targets;
       going = going;
-      long = ap length c.in_ok-push.ensures.items ∙ length_push c.loop-i.kinds.items c.kind_of.result ∙ ap (λ n. n + 1) h.long;
-      kinds = IsKind-push l i c.loop-i.kinds.items c.push.new.self.items c.kind_of.result h.long c.in_ok-push.ensures.items kind h.kinds;
+      long = ap length c.in_ok-push.ensures.items ∙ length_push c.loop-i.kinds.items c.kind_of.result
+          ∙ ap (λ n. n + 1) h.long;
+      kinds = IsKind-push l i c.loop-i.kinds.items c.push.new.self.items c.kind_of.result h.long
+          c.in_ok-push.ensures.items kind h.kinds;
     }
 
 pub returns-clause-kinds : goal.returns-clause-kinds
@@ -55,7 +58,8 @@ returns-clause-kinds c =
     let l : ℕ → Link = link_at R (λ i. get_or c.args.binders.now i None) in
     let h = c.loop-i.invariant in
     let end : c.loop-i.i ≡ length R = omega (arith, c.loop-i.auto.i-end, c.loop-i-test.false) in
-    let kind : (i : ℕ) → i < length R → IsKind l i (get_or c.loop-i.kinds.items i None) = λ i b. h.kinds i (subst (λ n. i < n) (sym end) b) in
+    let kind : (i : ℕ) → i < length R → IsKind l i (get_or c.loop-i.kinds.items i None) =
+    λ i b. h.kinds i (subst (λ n. i < n) (sym end) b) in
     record { ends = λ i o b g. IsKind-once (kind i b) (ends g); endless = λ i b g. IsKind-once (kind i b) (endless g) }
 
 pub returns-in_err-links-clause-long : goal.returns-in_err-links-clause-long

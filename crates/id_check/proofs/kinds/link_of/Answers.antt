@@ -9,10 +9,12 @@ part : (n m : Node) (a : ℕ) → ((b : ℕ) → HasPart n b → b < 2 ^ 32) →
 part n m a h e p = h a (subst (λ z. HasPart z a) (sym e) p)
 
 pub overflow_cast-result : goal.overflow_cast-result
-overflow_cast-result c = let p = part c.args.node _ c.in-Block.body c.requires.parts c.in-Block.is refl in omega (arith, p)
+overflow_cast-result c =
+    let p = part c.args.node _ c.in-Block.body c.requires.parts c.in-Block.is refl in omega (arith, p)
 
 pub overflow_cast-result-in-Binding : goal.overflow_cast-result-in-Binding
-overflow_cast-result-in-Binding c = let p = part c.args.node _ c.in-Binding.value c.requires.parts c.in-Binding.is refl in omega (arith, p)
+overflow_cast-result-in-Binding c =
+    let p = part c.args.node _ c.in-Binding.value c.requires.parts c.in-Binding.is refl in omega (arith, p)
 
 pub overflow_cast-result-in-Fetch : goal.overflow_cast-result-in-Fetch
 overflow_cast-result-in-Fetch c =

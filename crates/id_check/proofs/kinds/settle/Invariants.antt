@@ -11,7 +11,8 @@ invariant-loop-next l = record {
   long : length l.links.items ≡ length l.initial.links.items;
   at : l.at < length l.links.items;
   below : (p : ℕ) → Among p (rows_of l.passed.items) → p < length l.links.items;
-  targets : (i j : ℕ) → i < length l.links.items → goes_to (get_or l.links.items i Nowhere) ≡ Some j → j < length l.links.items;
+  targets : (i j : ℕ) → i < length l.links.items → goes_to (get_or l.links.items i Nowhere) ≡ Some j
+      → j < length l.links.items;
   passing : (f : ℕ → Link) → IsGoing f (length l.initial.links.items) l.start l.initial.links.items →
       IsPassing f (length l.initial.links.items) l.start l.passed.items l.at l.links.items;
 }

@@ -15,7 +15,8 @@ use Rattle.id_check.proofs.numbers.count_call.Goals.{In-Call}
 
 -- the row is a call, and its `Enter` is a row
 called : (c : In-Call)
-    → ((at (list_of c.args.rows.now) c.args.i).node ≡ Call c.in-Call.enter c.in-Call.count) × (c.in-Call.enter < length (list_of c.args.rows.now))
+    → ((at (list_of c.args.rows.now) c.args.i).node ≡ Call c.in-Call.enter c.in-Call.count)
+    × (c.in-Call.enter < length (list_of c.args.rows.now))
 called c =
     let R = (list_of c.args.rows.now) in
     let e = c.in-Call.enter in
@@ -41,7 +42,8 @@ returns-else-count-gt-MOST c =
     let w = called (goal.at.returns-else-count-gt-MOST c).In-Call in
     let read : c.index.result.now ≡ get_or cs e None =
     c.index.ensures ∙ get_or_default cs e c.index.result.now None (subst (λ m. e < m) (sym c.requires.long) w.1) in
-    subst (λ o. AreCounts R (c.args.i + 1) (set cs e o)) (sym (c.first_count.ensures ∙ ap (λ o. option_or o (Some n)) read))
+    subst (λ o. AreCounts R (c.args.i + 1) (set cs e o))
+    (sym (c.first_count.ensures ∙ ap (λ o. option_or o (Some n)) read))
     (counts_call R c.args.i e n cs w.0 w.1 c.requires)
 
 pub returns-in_default : goal.returns-in_default

@@ -9,12 +9,14 @@ use Rattle.id_check.proofs.numbers.depth_of.Goals.{In-LoopHead}
 
 -- the depth is one more than that of the `Start`, which is known, and not above the number of that
 known : (c : In-LoopHead)
-    → (c.in-LoopHead.start < c.args.i) × (depth (list_of c.args.rows.now) c.args.i ≡ get_or c.args.depths.now c.in-LoopHead.start 0 + 1) ×
+    → (c.in-LoopHead.start < c.args.i)
+    × (depth (list_of c.args.rows.now) c.args.i ≡ get_or c.args.depths.now c.in-LoopHead.start 0 + 1) ×
     (get_or c.args.depths.now c.in-LoopHead.start 0 < c.args.i)
 known c =
     let R = (list_of c.args.rows.now) in
     let s = c.in-LoopHead.start in
-    let is = ap (λ b. (at R b).node) (ap (λ (r : Row). r.block) (sym c.at.ensures)) ∙ (ap (λ (r : Row). r.node) (sym c.at-2.ensures) ∙ c.in-LoopHead.is) in
+    let is = ap (λ b. (at R b).node) (ap (λ (r : Row). r.block) (sym c.at.ensures))
+    ∙ (ap (λ (r : Row). r.node) (sym c.at-2.ensures) ∙ c.in-LoopHead.is) in
     let w = depth_loop R c.args.i s c.args.rows.now.in_blocks is in
     let same = c.requires.each s w.0 in (
       w.0,

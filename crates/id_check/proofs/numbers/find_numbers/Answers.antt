@@ -10,12 +10,14 @@ use Rattle.id_check.proofs.numbers.find_numbers.Goals as goal
 pub loop-i-init : goal.loop-i-init
 loop-i-init c = record {
   depths = record { long = ap length c.in_ok-depths.ensures.items; each = λ i less. absurd (omega arith) };
-  counts = counts_none (list_of c.args.rows.now) c.in_ok-counts.counts.items (c.in_ok-counts.ensures.items_if_clones_equal (λ y h. search rules)
+  counts = counts_none (list_of c.args.rows.now) c.in_ok-counts.counts.items
+      (c.in_ok-counts.ensures.items_if_clones_equal (λ y h. search rules)
       ∙ ap (λ n. replicate n None) c.len.ensures);
 }
 
 pub depth_of-depth-requires : goal.depth_of-depth-requires
-depth_of-depth-requires c = subst (AreDepths (list_of c.args.rows.now) c.loop-i.i) (sym c.as_slice.ensures.value) c.loop-i.invariant.depths
+depth_of-depth-requires c =
+    subst (AreDepths (list_of c.args.rows.now) c.loop-i.i) (sym c.as_slice.ensures.value) c.loop-i.invariant.depths
 
 pub loop-i-preserved : goal.loop-i-preserved
 loop-i-preserved c =
@@ -24,7 +26,8 @@ loop-i-preserved c =
     record {
       depths =
           subst (AreDepths R (i + 1)) (sym c.in_ok-push.ensures.items)
-          (depths_more R i c.depth_of-depth.result c.loop-i.depths.items c.depth_of-depth.ensures c.loop-i.invariant.depths);
+          (depths_more R i c.depth_of-depth.result c.loop-i.depths.items c.depth_of-depth.ensures
+          c.loop-i.invariant.depths);
       counts = c.in_ok-count_call.ensures;
     }
 

@@ -20,7 +20,8 @@ pub overflow_step-i : goal.overflow_step-i
 overflow_step-i c =
     let t = c.args.rows.now in
     let d = c.requires in
-    let low : c.args.head + 1 < length (list_of t) = ∥∥₁_elim t.tabled le_prop (λ w. head_low (list_of t) w c.args.head d.0 d.1) in
+    let low : c.args.head + 1 < length (list_of t) =
+    ∥∥₁_elim t.tabled le_prop (λ w. head_low (list_of t) w c.args.head d.0 d.1) in
     omega (arith, low)
 
 -- the row is none of the parameters
@@ -30,7 +31,11 @@ returns-then-not-is_param_of c =
     let d = c.requires in
     let h = c.loop-i.invariant in
     ∥∥₁_elim t.tabled (hlevel props) (λ w.
-    array_behind (list_of t) w c.args.head d.0 d.1 c.loop-i.i h.behind (omega (arith, c.loop-i-test.true, c.len-count.ensures))
+    array_behind (list_of t) w c.args.head d.0 d.1 c.loop-i.i h.behind (omega (
+      arith,
+      c.loop-i-test.true,
+      c.len-count.ensures,
+    ))
     (sym c.is_param_of.ensures ∙ c.if-not-is_param_of.true) h.low h.without)
 
 pub returns-then-is_array_param : goal.returns-then-is_array_param
@@ -42,7 +47,8 @@ returns-then-is_array_param c =
     ap (λ (q : Row). MainKind q.place ∷ []) c.at-row.ensures
     ∙ ∥∥₁_elim t.tabled (hlevel props) (λ w.
     array_found (list_of t) w c.args.head d.0 d.1 c.loop-i.i h.behind less
-    (sym c.is_param_of.ensures ∙ c.if-not-is_param_of.false) h.without (array c.at-row.ensures ∙ sym c.is_array_param.ensures ∙ c.if-is_array_param.true))
+    (sym c.is_param_of.ensures ∙ c.if-not-is_param_of.false) h.without (array c.at-row.ensures
+    ∙ sym c.is_array_param.ensures ∙ c.if-is_array_param.true))
 
 pub loop-i-preserved : goal.loop-i-preserved
 loop-i-preserved c =
@@ -53,7 +59,8 @@ loop-i-preserved c =
     record {
       behind = let l = h.behind in omega arith;
       low = ∥∥₁_elim t.tabled le_prop (λ w.
-          param_low (list_of t) w c.args.head d.0 d.1 c.loop-i.i h.behind less (sym c.is_param_of.ensures ∙ c.if-not-is_param_of.false));
+          param_low (list_of t) w c.args.head d.0 d.1 c.loop-i.i h.behind less (sym c.is_param_of.ensures
+          ∙ c.if-not-is_param_of.false));
       without = without_next (list_of t) c.args.head c.loop-i.i h.behind h.without
           (array c.at-row.ensures ∙ sym c.is_array_param.ensures ∙ c.if-is_array_param.false);
     }
@@ -64,4 +71,6 @@ returns c =
     let d = c.requires in
     let h = c.loop-i.invariant in
     let past = c.loop-i-test.false in
-    ∥∥₁_elim t.tabled (hlevel props) (λ w. array_past (list_of t) w c.args.head d.0 d.1 c.loop-i.i h.behind (omega (arith, past, c.len-count.ensures)) h.low h.without)
+    ∥∥₁_elim t.tabled (hlevel props)
+    (λ w. array_past (list_of t) w c.args.head d.0 d.1 c.loop-i.i h.behind (omega (arith, past, c.len-count.ensures))
+    h.low h.without)

@@ -11,14 +11,16 @@ pub overflow_sub-len : goal.overflow_sub-len
 overflow_sub-len c =
     let t = c.args.rows.now in
     let d = c.requires in
-    let low : c.args.head + 1 < length (list_of t) = ∥∥₁_elim t.tabled le_prop (λ w. head_low (list_of t) w c.args.head d.0 d.1) in
+    let low : c.args.head + 1 < length (list_of t) =
+    ∥∥₁_elim t.tabled le_prop (λ w. head_low (list_of t) w c.args.head d.0 d.1) in
     omega (arith, low, c.len.ensures)
 
 pub overflow_sub-len-2 : goal.overflow_sub-len-2
 overflow_sub-len-2 c =
     let t = c.args.rows.now in
     let d = c.requires in
-    let low : c.args.head + 1 < length (list_of t) = ∥∥₁_elim t.tabled le_prop (λ w. head_low (list_of t) w c.args.head d.0 d.1) in
+    let low : c.args.head + 1 < length (list_of t) =
+    ∥∥₁_elim t.tabled le_prop (λ w. head_low (list_of t) w c.args.head d.0 d.1) in
     omega (arith, low, c.len.ensures)
 
 pub returns-then-index-len : goal.returns-then-index-len

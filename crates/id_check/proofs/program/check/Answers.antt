@@ -23,7 +23,8 @@ invariant_of-with_columns c =
 pub returns-in-Err-clause-inside : goal.returns-in-Err-clause-inside
 returns-in-Err-clause-inside c =
     let t = program_tree c.args.program in
-    IsInside-refused t c.in-Err.cause (IsTable-rows_of t (IsProgramTree-program_tree c.args.program)) c.in-Err.ensures.refused
+    IsInside-refused t c.in-Err.cause (IsTable-rows_of t (IsProgramTree-program_tree c.args.program))
+    c.in-Err.ensures.refused
 
 pub returns-in-Ok-noted-clause-back : goal.returns-in-Ok-noted-clause-back
 returns-in-Ok-noted-clause-back c = tt

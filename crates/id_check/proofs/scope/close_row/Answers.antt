@@ -15,8 +15,11 @@ returns-then-closes c =
     let hs = c.args.held.now.items in
     let row = c.requires.within in
     let inside = c.requires.inside in
-    let is = confines_is R s b c.requires.behind inside ∙ by_nodes closes R s b c.at.result c.at-2.result c.closes.result c.at.ensures c.at-2.ensures c.closes.ensures ∙ c.if-closes.true in
-    subst (λ n. AreTaken R s n (set hs b true)) (sym (add-one b)) (taken_more R s b hs (omega arith) is c.requires.taken)
+    let is = confines_is R s b c.requires.behind inside
+    ∙ by_nodes closes R s b c.at.result c.at-2.result c.closes.result c.at.ensures c.at-2.ensures c.closes.ensures
+    ∙ c.if-closes.true in
+    subst (λ n. AreTaken R s n (set hs b true)) (sym (add-one b))
+    (taken_more R s b hs (omega arith) is c.requires.taken)
 
 pub returns-else-closes : goal.returns-else-closes
 returns-else-closes c =
@@ -24,5 +27,8 @@ returns-else-closes c =
     let s = c.args.scope in
     let b = c.args.binder in
     let hs = c.args.held.now.items in
-    let is = confines_is R s b c.requires.behind c.requires.inside ∙ by_nodes closes R s b c.at.result c.at-2.result c.closes.result c.at.ensures c.at-2.ensures c.closes.ensures ∙ c.if-closes.false in
-    subst (λ n. AreTaken R s n hs) (sym (add-one b)) (taken_same R s b hs (or_false (held R b s) (confines R s b) is) c.requires.taken)
+    let is = confines_is R s b c.requires.behind c.requires.inside
+    ∙ by_nodes closes R s b c.at.result c.at-2.result c.closes.result c.at.ensures c.at-2.ensures c.closes.ensures
+    ∙ c.if-closes.false in
+    subst (λ n. AreTaken R s n hs) (sym (add-one b))
+    (taken_same R s b hs (or_false (held R b s) (confines R s b) is) c.requires.taken)

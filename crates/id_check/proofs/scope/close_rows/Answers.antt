@@ -14,12 +14,15 @@ loop-k-init c =
     let k = c.start_of-start.result in
     let first = ap (λ (r : Row). r.first) c.at.ensures in
     let shut : (b : ℕ) → 0 ≤ b → b < get_or ps k s → IsShut R s b = λ b d e.
-    shut_start R s k b ps c.requires.untaken (λ j l. subst (λ f. get_or ps j 0 < f) first (c.start_of-start.ensures.before j l)) e in
-    taken_gap R s 0 (get_or ps k s) c.args.held.now.items (omega arith) shut (taken_start R s c.args.held.now.items c.requires.held)
+    shut_start R s k b ps c.requires.untaken
+    (λ j l. subst (λ f. get_or ps j 0 < f) first (c.start_of-start.ensures.before j l)) e in
+    taken_gap R s 0 (get_or ps k s) c.args.held.now.items (omega arith) shut
+    (taken_start R s c.args.held.now.items c.requires.held)
 
 pub close_row-requires-clause-taken : goal.close_row-requires-clause-taken
 close_row-requires-clause-taken c =
-    subst (λ n. AreTaken (list_of c.args.rows.now) c.args.scope n c.loop-k.held.items) (get_or_default c.args.untaken.now c.loop-k.k c.args.scope 0 c.loop-k-test.true)
+    subst (λ n. AreTaken (list_of c.args.rows.now) c.args.scope n c.loop-k.held.items)
+    (get_or_default c.args.untaken.now c.loop-k.k c.args.scope 0 c.loop-k-test.true)
     c.loop-k.invariant
 
 pub loop-k-preserved : goal.loop-k-preserved
@@ -35,10 +38,12 @@ pub returns : goal.returns
 returns c =
     let R = (list_of c.args.rows.now) in
     let s = c.args.scope in
-    let past : get_or c.args.untaken.now c.loop-k.k s ≡ s = get_or_past c.args.untaken.now c.loop-k.k s c.loop-k-test.false in
+    let past : get_or c.args.untaken.now c.loop-k.k s ≡ s =
+    get_or_past c.args.untaken.now c.loop-k.k s c.loop-k-test.false in
     taken_end R s c.loop-k.held.items (subst (λ n. AreTaken R s n c.loop-k.held.items) past c.loop-k.invariant)
 
 pub close_row-requires-clause-behind : goal.close_row-requires-clause-behind
 close_row-requires-clause-behind c =
     let first = ap (λ (r : Row). r.first) c.at.ensures in
-    subst (λ f. f ≤ get_or c.args.untaken.now c.loop-k.k 0) first (c.start_of-start.ensures.behind c.loop-k.k c.loop-k.auto.k c.loop-k-test.true)
+    subst (λ f. f ≤ get_or c.args.untaken.now c.loop-k.k 0) first
+    (c.start_of-start.ensures.behind c.loop-k.k c.loop-k.auto.k c.loop-k-test.true)

@@ -27,7 +27,8 @@ loop-scopes-init c =
 pub pass-requires-clause-left : goal.pass-requires-clause-left
 pass-requires-clause-left c =
     let q = c.loop-scopes.scopes in
-    subst (λ r. q.passed < length (list_of r)) (sym c.loop-scopes.invariant.rows) (subst (λ n. q.passed < n) c.len.ensures c.loop-scopes-test.true)
+    subst (λ r. q.passed < length (list_of r)) (sym c.loop-scopes.invariant.rows)
+    (subst (λ n. q.passed < n) c.len.ensures c.loop-scopes-test.true)
 
 pub pass-requires-clause-begun : goal.pass-requires-clause-begun
 pass-requires-clause-begun c = c.loop-scopes.invariant.begun
@@ -35,7 +36,8 @@ pass-requires-clause-begun c = c.loop-scopes.invariant.begun
 pub pass-requires-clause-untaken : goal.pass-requires-clause-untaken
 pass-requires-clause-untaken c =
     let q = c.loop-scopes.scopes in
-    subst (λ r. IsOpen (list_of r) q.passed q.passed c.loop-scopes.untaken.items) (sym c.loop-scopes.invariant.rows) c.loop-scopes.invariant.untaken
+    subst (λ r. IsOpen (list_of r) q.passed q.passed c.loop-scopes.untaken.items) (sym c.loop-scopes.invariant.rows)
+    c.loop-scopes.invariant.untaken
 
 pub loop-scopes-preserved : goal.loop-scopes-preserved
 loop-scopes-preserved c =
@@ -45,14 +47,16 @@ loop-scopes-preserved c =
     let h = c.loop-scopes.invariant in
     let e = c.in_ok-pass.ensures in
     let s = q.passed in
-    let noted : Notes q.first (seconds R s s) n.first = subst (λ r. Notes q.first (seconds (list_of r) s s) n.first) h.rows e.first in
+    let noted : Notes q.first (seconds R s s) n.first =
+    subst (λ r. Notes q.first (seconds (list_of r) s s) n.first) h.rows e.first in
     let listed : IsOpen R (s + 1) (s + 1) c.pass.new.untaken.items =
     subst (λ r. IsOpen (list_of r) (s + 1) (s + 1) c.pass.new.untaken.items) h.rows e.untaken in
     record {
       rows = e.passes.rows ∙ h.rows;
       begun = e.begun;
       untaken = subst (λ k. IsOpen R k k c.pass.new.untaken.items) (sym e.passes.passed) listed;
-      first = subst (λ k. IsFirstOf n.first (duplicates R k)) (sym (e.passes.passed ∙ add-one s)) (noted (duplicates R s) h.first);
+      first = subst (λ k. IsFirstOf n.first (duplicates R k)) (sym (e.passes.passed ∙ add-one s))
+          (noted (duplicates R s) h.first);
     }
 
 pub loop-scopes-smaller : goal.loop-scopes-smaller
@@ -71,7 +75,8 @@ ended c =
     let g = c.loop-scopes-test.false in
     omega arith
 
-bound : (c : After-loop-scopes) → AreBound (list_of c.args.rows.now) (length (list_of c.args.rows.now)) c.loop-scopes.scopes.binders.items
+bound : (c : After-loop-scopes)
+    → AreBound (list_of c.args.rows.now) (length (list_of c.args.rows.now)) c.loop-scopes.scopes.binders.items
 bound c =
     let q = c.loop-scopes.scopes in
     moved (λ r n. AreBound (list_of r) n q.binders.items) (sym c.loop-scopes.invariant.rows) (sym (ended c))
@@ -85,11 +90,13 @@ returns-clause-binders c = record { each = (bound (goal.at.returns-clause-binder
 
 pub returns-clause-within : goal.returns-clause-within
 returns-clause-within c = λ i b less e.
-    binder_at-below (list_of c.args.rows.now) _ i b (sym ((bound (goal.at.returns-clause-within c).After-loop-scopes).each i less) ∙ e)
+    binder_at-below (list_of c.args.rows.now) _ i b
+    (sym ((bound (goal.at.returns-clause-within c).After-loop-scopes).each i less) ∙ e)
 
 pub returns-clause-first : goal.returns-clause-first
 returns-clause-first c =
-    subst (λ n. IsFirstOf c.loop-scopes.scopes.first (duplicates (list_of c.args.rows.now) n)) (ended (goal.at.returns-clause-first c).After-loop-scopes)
+    subst (λ n. IsFirstOf c.loop-scopes.scopes.first (duplicates (list_of c.args.rows.now) n))
+    (ended (goal.at.returns-clause-first c).After-loop-scopes)
     c.loop-scopes.invariant.first
 
 pub returns-in_err-scopes : goal.returns-in_err-scopes

@@ -4,13 +4,21 @@ use Rattle.id_compile.proofs.compiled.accept.Goals as goal
 pub returns : goal.returns
 returns c = record {
   program = tt;
-  refused = refused_graph c.args.text.now c.in_ok-checked.checked c.in-Err.error c.in_ok-checked.ensures.program c.in-Err.ensures.refused;
+  refused =
+      refused_graph c.args.text.now c.in_ok-checked.checked c.in-Err.error c.in_ok-checked.ensures.program
+      c.in-Err.ensures.refused;
   inside = graph_inside c.args.text.now c.in_ok-checked.checked c.in-Err.error c.in-Err.ensures.refused;
 }
 
 pub returns-in-Ok : goal.returns-in-Ok
 returns-in-Ok c = record {
-  program = record { program = c.in_ok-checked.checked; is_program = c.in_ok-checked.ensures.program; small = c.in-Ok.ensures.small };
+  program =
+      record {
+        program = c.in_ok-checked.checked;
+        is_program = c.in_ok-checked.ensures.program;
+        small =
+            c.in-Ok.ensures.small;
+      };
   refused = tt;
   inside = tt;
 }

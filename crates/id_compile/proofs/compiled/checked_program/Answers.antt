@@ -22,5 +22,6 @@ returns-in-Err-clause-refused c =
 
 pub returns-in-Err-clause-inside : goal.returns-in-Err-clause-inside
 returns-in-Err-clause-inside c =
-    checker_inside c.args.text.now (tree_in c.in_ok-table.table.tree.known) (c.in_ok-table.ensures.within).within c.in_ok-table.ensures.short
+    checker_inside c.args.text.now (tree_in c.in_ok-table.table.tree.known) (c.in_ok-table.ensures.within).within
+    c.in_ok-table.ensures.short
     c.in-Err.cause c.in-Err.ensures.inside

@@ -10,7 +10,9 @@ returns c = record {
   small = tt;
   within = tt;
   short = tt;
-  refused = refused_graph c.args.text.now c.in_ok-checked.checked c.in-Err.error c.in_ok-checked.ensures.program c.in-Err.ensures.refused;
+  refused =
+      refused_graph c.args.text.now c.in_ok-checked.checked c.in-Err.error c.in_ok-checked.ensures.program
+      c.in-Err.ensures.refused;
   inside = graph_inside c.args.text.now c.in_ok-checked.checked c.in-Err.error c.in-Err.ensures.refused;
 }
 

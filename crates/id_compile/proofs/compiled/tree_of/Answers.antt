@@ -18,7 +18,8 @@ returns-in-Err c = record {
   short = tt;
   refused = by_lexer _ c.in-Err.ensures.refused;
   inside = lexer_inside c.args.text.now c.in-Err.error c.in-Err.ensures.refused_within
-      (too_long_or_short c.args.text.now c.in-Err.error (λ long. (let e = c.in-Err.ensures.too_long.1 long in let is : c.in-Err.error ≡ TooLong = cc
+      (too_long_or_short c.args.text.now c.in-Err.error (λ long. (let e = c.in-Err.ensures.too_long.1 long in
+      let is : c.in-Err.error ≡ TooLong = cc
       in is)));
 }
 
@@ -26,13 +27,15 @@ pub returns-in-Ok-parse : goal.returns-in-Ok-parse
 returns-in-Ok-parse c = record {
   tree = record {
     tokens = _;
-    lexes = subst (λ (ts : List Token). Lexes 0 c.args.text.now ts Whole) (sym c.as_slice.ensures.value) c.in-Ok.ensures.tokens;
+    lexes = subst (λ (ts : List Token). Lexes 0 c.args.text.now ts Whole) (sym c.as_slice.ensures.value)
+        c.in-Ok.ensures.tokens;
     accepts = c.in-Ok-parse.ensures.tree;
   };
   distinct = c.in-Ok-parse.ensures.distinct;
   within = record {
     within = λ q h. (
-        let starts = subst (λ (ts : List Token). StartsAt q ts) c.as_slice.ensures.value (c.in-Ok-parse.ensures.within q h) in
+        let starts =
+        subst (λ (ts : List Token). StartsAt q ts) c.as_slice.ensures.value (c.in-Ok-parse.ensures.within q h) in
         StartsAt-within (length c.args.text.now) c.in-Ok.tokens.items c.in-Ok.ensures.within q starts);
   };
   short = short_text c.args.text.now (λ long. (let e = c.in-Ok.ensures.too_long.1 long in absurd cc));
@@ -46,9 +49,15 @@ returns c = record {
   distinct = tt;
   within = tt;
   short = tt;
-  refused = (let lexes = subst (λ (ts : List Token). Lexes 0 c.args.text.now ts Whole) (sym c.as_slice.ensures.value) c.in-Ok.ensures.tokens in
+  refused =
+      (let lexes =
+      subst (λ (ts : List Token). Lexes 0 c.args.text.now ts Whole) (sym c.as_slice.ensures.value)
+      c.in-Ok.ensures.tokens in
       by_parser _ _ lexes c.in-Err-parse.ensures.refused);
-  inside = (let all = subst (λ (ts : List Token). All (IsWithin (length c.args.text.now)) ts) (sym c.as_slice.ensures.value) c.in-Ok.ensures.within in
-      parser_inside c.args.text.now _ c.in-Err-parse.error c.in-Err-parse.ensures.refused all (short_text c.args.text.now (λ long. (let e =
+  inside = (let all =
+      subst (λ (ts : List Token). All (IsWithin (length c.args.text.now)) ts) (sym c.as_slice.ensures.value)
+      c.in-Ok.ensures.within in
+      parser_inside c.args.text.now _ c.in-Err-parse.error c.in-Err-parse.ensures.refused all
+      (short_text c.args.text.now (λ long. (let e =
       c.in-Ok.ensures.too_long.1 long in absurd cc))));
 }

@@ -6,13 +6,15 @@ use Rattle.id_compile.proofs.refusal.put_refusal.Goals as goal
 pub returns-in_err-put : goal.returns-in_err-put
 returns-in_err-put g c =
     let r = c.args.refusal.now in
-    Prints-stop _ _ _ (cause_text r.cause ++ (detail_text c.args.text.now r.detail ++ codes "\n")) _ _ c.in_err-put.ensures c.from_residual.ensures.0
+    Prints-stop _ _ _ (cause_text r.cause ++ (detail_text c.args.text.now r.detail ++ codes "\n")) _ _
+    c.in_err-put.ensures c.from_residual.ensures.0
 
 pub returns-in_err-put_cause : goal.returns-in_err-put_cause
 returns-in_err-put_cause g c =
     let r = c.args.refusal.now in
     Prints-then _ _ _ _ _ _ _ c.in_ok-put.ensures
-    (Prints-stop _ _ _ (detail_text c.args.text.now r.detail ++ codes "\n") _ _ c.in_err-put_cause.ensures c.from_residual-in_err-put_cause.ensures.0)
+    (Prints-stop _ _ _ (detail_text c.args.text.now r.detail ++ codes "\n") _ _ c.in_err-put_cause.ensures
+    c.from_residual-in_err-put_cause.ensures.0)
 
 pub returns-in_err-put_detail : goal.returns-in_err-put_detail
 returns-in_err-put_detail g c =

@@ -1,5 +1,6 @@
 -- One more entry takes its input; where one does not take its own, not all do.
-use Rattle.std.proofs.Common.{◌≡◌, ℕ, zero, suc, ◌+◌, ◌<◌, ◌≤◌, List, [], ◌∷◌, length, take, get_or, Some, refl, sym, ap, subst, ◌∙◌, arith}
+use Rattle.std.proofs.Common.{◌≡◌, ℕ, zero, suc, ◌+◌, ◌<◌, ◌≤◌, List, [], ◌∷◌, length, take, get_or, Some, refl, sym}
+use Rattle.std.proofs.Common.{ap, subst, ◌∙◌, arith}
 use Rattle.std.proofs.lemmas.List.{take_all}
 use Rattle.id_instr.specs.declared.instr.Op.TheVariants.{Merge}
 use Rattle.id_instr.specs.Graph.{Parts}
@@ -10,8 +11,9 @@ use Rattle.id_valid.specs.Roles.{op_at}
 use Rattle.id_core.specs.Machines.{AreTaken}
 use Rattle.id_core.proofs.entering.are_taken.Goals as goal
 
-AreTaken-more : (g : Parts) (ns : List ℕ) (vs : List Constant) (i d : ℕ) (e : Constant) → i < length ns → length ns ≡ length vs
-    → AreTaken g (take i ns) (take i vs) → op_at g (get_or ns i d) ≡ Some (Merge (kind_of (constant_value (get_or vs i e))))
+AreTaken-more : (g : Parts) (ns : List ℕ) (vs : List Constant) (i d : ℕ) (e : Constant) → i < length ns
+    → length ns ≡ length vs → AreTaken g (take i ns) (take i vs)
+    → op_at g (get_or ns i d) ≡ Some (Merge (kind_of (constant_value (get_or vs i e))))
     → AreTaken g (take (suc i) ns) (take (suc i) vs)
 AreTaken-more g [] vs i d e lt same old new = let no : ⊥ = omega (arith, lt) in absurd no
 AreTaken-more g (n ∷ ns) [] i d e lt same old new = let no : ⊥ = omega (arith, lt, same) in absurd no
@@ -44,7 +46,8 @@ returns-then-not-is_merge c =
     let wanted = ap (λ k. Some (Merge k)) kind in (
       λ no. cc,
       λ taken.
-          let op = AreTaken-at c.args.graph.now c.args.entries.now c.args.inputs.now c.loop-index.index _ _ c.loop-index-test.true taken in
+          let op = AreTaken-at c.args.graph.now c.args.entries.now c.args.inputs.now c.loop-index.index _ _
+          c.loop-index-test.true taken in
           sym c.if-not-is_merge.true ∙ c.is_merge.ensures.1 (c.op_at.ensures ∙ op ∙ sym wanted),
     )
 

@@ -16,7 +16,8 @@ returns-then-entries-values c =
     let block = c.main_block.result.now in
     let P : Block → Type 0 = λ b. AreTaken g b.entries vs in (
       λ yes.
-          let all : AreTaken g block.entries vs = rw (← c.graph.ensures.value, ← c.as_slice-entries.ensures, ← c.as_slice-values.ensures)
+          let all : AreTaken g block.entries vs =
+          rw (← c.graph.ensures.value, ← c.as_slice-entries.ensures, ← c.as_slice-values.ensures)
           (c.are_taken.ensures.0 yes) in
           record { taken = λ b main. subst P (same_first block b _ c.main_block.ensures.main main) all },
       λ takes.
@@ -30,7 +31,9 @@ returns-else-entries-values c =
     let other = c.if-entries-values.false in (
       λ yes. absurd (other (eqb-true _ _ yes)),
       λ takes.
-          let same = length-taken c.args.graph.now block.entries c.args.inputs.now.values (takes.taken block c.main_block.ensures.main) in
+          let same =
+          length-taken c.args.graph.now block.entries c.args.inputs.now.values
+          (takes.taken block c.main_block.ensures.main) in
           absurd (other (ap length c.as_slice-entries.ensures ∙ same ∙ sym (ap length c.as_slice-values.ensures))),
     )
 

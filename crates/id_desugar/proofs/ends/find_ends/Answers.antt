@@ -16,15 +16,18 @@ loop-n-preserved c =
     let n = c.loop-n.n in
     let begun = c.begun_at.ensures ∙ ap (λ r. begun_at r.node) c.row_at.ensures in
     AreFirst-next c.args.checked.now (end_at c.args.checked.now) n c.begun_at.result c.loop-n.column c.note.new.noted
-    (λ h. ap (λ b. if is_row h b then Some n else None) (sym begun)) c.note.ensures.long c.loop-n.invariant c.note.ensures.each
+    (λ h. ap (λ b. if is_row h b then Some n else None) (sym begun)) c.note.ensures.long c.loop-n.invariant
+    c.note.ensures.each
 
 pub note-requires : goal.note-requires
 note-requires c = omega (arith, c.loop-n-test.true, c.if-count-gt-MOST.false)
 
 pub invariant_of-result : goal.invariant_of-result
 invariant_of-result c =
-    let end : c.loop-n.n ≡ length (rows c.args.checked.now) = omega (arith, c.loop-n-test.false, c.loop-n.auto.n-end, c.len-count.ensures) in
+    let end : c.loop-n.n ≡ length (rows c.args.checked.now) =
+    omega (arith, c.loop-n-test.false, c.loop-n.auto.n-end, c.len-count.ensures) in
     record {
       few = omega (arith, c.if-count-gt-MOST.false, c.len-count.ensures);
-      ended = subst (λ n. AreFirst c.args.checked.now (end_at c.args.checked.now) n c.loop-n.column) end c.loop-n.invariant;
+      ended = subst (λ n. AreFirst c.args.checked.now (end_at c.args.checked.now) n c.loop-n.column) end
+          c.loop-n.invariant;
     }

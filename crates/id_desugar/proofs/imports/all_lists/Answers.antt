@@ -7,10 +7,12 @@ use Rattle.id_desugar.proofs.imports.all_lists.Goals as goal
 
 pub loop-row-init : goal.loop-row-init
 loop-row-init c = (
-  AreTurned-none c.args.spans.now.ends.checked.now (length (rows c.args.spans.now.ends.checked.now)) c.in_ok-lists.lists.items refl c.in_ok-lists.ensures,
+  AreTurned-none c.args.spans.now.ends.checked.now (length (rows c.args.spans.now.ends.checked.now))
+      c.in_ok-lists.lists.items refl c.in_ok-lists.ensures,
   record {
     many = omega (arith, c.in_ok-marks.ensures.len, c.len-count.ensures);
-    below = AreBelow-zeros c.len-count.result c.in_ok-marks.marks.items (c.in_ok-marks.ensures.items_if_clones_equal (λ y e. e));
+    below = AreBelow-zeros c.len-count.result c.in_ok-marks.marks.items
+        (c.in_ok-marks.ensures.items_if_clones_equal (λ y e. e));
   },
 )
 
@@ -24,5 +26,8 @@ turn-requires c = record { lists = c.loop-row.invariant.0; marks = c.loop-row.in
 
 pub loop-row-preserved : goal.loop-row-preserved
 loop-row-preserved c =
-    let n = c.loop-row.row in
-    (c.in_ok-turn.ensures.lists, AreMarks-more c.args.spans.now.ends.checked.now (n + 2) (n + 1 + 1) c.turn.new.marks.items (omega arith) c.in_ok-turn.ensures.marks)
+    let n = c.loop-row.row in (
+      c.in_ok-turn.ensures.lists,
+      AreMarks-more c.args.spans.now.ends.checked.now (n + 2) (n + 1 + 1) c.turn.new.marks.items (omega arith)
+          c.in_ok-turn.ensures.marks,
+    )

@@ -8,10 +8,15 @@ use Rattle.id_desugar.proofs.imports.all_uses.Goals as goal
 
 pub loop-end-init : goal.loop-end-init
 loop-end-init c = (
-  AreFilled-none c.args.ends.now.checked.now c.in_ok-lists.lists.items (omega (arith, c.in_ok-lists.ensures.0, c.len-count.ensures)) c.in_ok-lists.ensures.1,
+  AreFilled-none c.args.ends.now.checked.now c.in_ok-lists.lists.items (omega (
+    arith,
+    c.in_ok-lists.ensures.0,
+    c.len-count.ensures,
+  )) c.in_ok-lists.ensures.1,
   record {
     many = omega (arith, c.in_ok-marks.ensures.len, c.len-count.ensures);
-    below = AreBelow-zeros c.len-count.result c.in_ok-marks.marks.items (c.in_ok-marks.ensures.items_if_clones_equal (λ y e. e));
+    below = AreBelow-zeros c.len-count.result c.in_ok-marks.marks.items
+        (c.in_ok-marks.ensures.items_if_clones_equal (λ y e. e));
   },
 )
 
@@ -20,10 +25,14 @@ fill-requires c = record { lists = c.loop-end.invariant.0; marks = c.loop-end.in
 
 pub loop-end-preserved : goal.loop-end-preserved
 loop-end-preserved c =
-    let n = c.loop-end.end in
-    (c.in_ok-fill.ensures.lists, AreMarks-more c.args.ends.now.checked.now (n + 2) (n + 1 + 1) c.fill.new.marks.items (omega arith) c.in_ok-fill.ensures.marks)
+    let n = c.loop-end.end in (
+      c.in_ok-fill.ensures.lists,
+      AreMarks-more c.args.ends.now.checked.now (n + 2) (n + 1 + 1) c.fill.new.marks.items (omega arith)
+          c.in_ok-fill.ensures.marks,
+    )
 
 pub returns : goal.returns
 returns c =
-    let end : c.loop-end.end ≡ length (rows c.args.ends.now.checked.now) = omega (arith, c.loop-end-test.false, c.loop-end.auto.end-end, c.len-count.ensures) in
+    let end : c.loop-end.end ≡ length (rows c.args.ends.now.checked.now) =
+    omega (arith, c.loop-end-test.false, c.loop-end.auto.end-end, c.len-count.ensures) in
     subst (λ n. AreFilled c.args.ends.now.checked.now n c.loop-end.lists.items) end c.loop-end.invariant.0

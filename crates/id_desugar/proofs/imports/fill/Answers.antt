@@ -9,8 +9,10 @@ use Rattle.id_desugar.proofs.imports.fill.Goals as goal
 pub gather-requires : goal.gather-requires
 gather-requires c = record {
   within = (end_begins c.args.ends.now.checked.now c.in-Some.opening c.args.end c.in-Some.ensures.some.1).0;
-  lists = subst (AreGathered c.args.ends.now.checked.now (c.in-Some.opening + 1) c.args.end) (sym c.as_slice.ensures.value)
-      (AreFilled-gathered c.args.ends.now.checked.now (c.in-Some.opening + 1) c.args.end c.args.lists.now.items c.requires.lists);
+  lists = subst (AreGathered c.args.ends.now.checked.now (c.in-Some.opening + 1) c.args.end)
+      (sym c.as_slice.ensures.value)
+      (AreFilled-gathered c.args.ends.now.checked.now (c.in-Some.opening + 1) c.args.end c.args.lists.now.items
+      c.requires.lists);
   count = record { each = λ s e i inner low high. refl };
   marks = record { many = c.requires.marks.many; below = c.requires.marks.below };
 }
@@ -36,14 +38,18 @@ returns-in_ok-uses c =
     let s = c.in-Some.opening in
     let some = c.in-Some.ensures.some in
     record {
-      lists = AreFilled-set c.args.ends.now.checked.now c.args.end s c.args.lists.now.items c.in_ok-uses.uses c.requires.lists some.0 some.1 some.2
+      lists = AreFilled-set c.args.ends.now.checked.now c.args.end s c.args.lists.now.items c.in_ok-uses.uses
+          c.requires.lists some.0 some.1 some.2
           (c.in_ok-uses.ensures ∙ c.in_ok-list.ensures.list);
-      marks = AreMarks-more c.args.ends.now.checked.now (c.args.end + 1 + 1) (c.args.end + 2) c.gather.new.marks.items (omega arith) c.in_ok-list.ensures.marks;
+      marks = AreMarks-more c.args.ends.now.checked.now (c.args.end + 1 + 1) (c.args.end + 2) c.gather.new.marks.items
+          (omega arith) c.in_ok-list.ensures.marks;
     }
 
 -- nothing ends that uses names from outside
 pub returns-in_default : goal.returns-in_default
 returns-in_default c = record {
-  lists = AreFilled-same c.args.ends.now.checked.now c.args.end c.args.lists.now.items c.requires.lists (c.in_default.ensures.none refl);
-  marks = AreMarks-more c.args.ends.now.checked.now (c.args.end + 1) (c.args.end + 2) c.args.marks.now.items (omega arith) c.requires.marks;
+  lists = AreFilled-same c.args.ends.now.checked.now c.args.end c.args.lists.now.items c.requires.lists
+      (c.in_default.ensures.none refl);
+  marks = AreMarks-more c.args.ends.now.checked.now (c.args.end + 1) (c.args.end + 2) c.args.marks.now.items
+      (omega arith) c.requires.marks;
 }

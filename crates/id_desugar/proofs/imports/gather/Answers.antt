@@ -15,7 +15,8 @@ loop-row-init c =
         many = c.requires.marks.many;
         marked = subst (AreMarked c.args.span.mark c.args.marks.now.items) (sym c.new-list.ensures.items)
             (AreMarked-none c.args.span.mark c.args.marks.now.items c.requires.marks.below);
-        list = c.new-list.ensures.items ∙ ap (imports_by (used_in c.args.ends.now.checked.now c.args.span.own) lo c.args.span.hi) none;
+        list = c.new-list.ensures.items
+            ∙ ap (imports_by (used_in c.args.ends.now.checked.now c.args.span.own) lo c.args.span.hi) none;
       },
     )
 
@@ -40,6 +41,8 @@ returns c =
     let hi = c.args.span.hi in
     let end : c.loop-row.row - lo ≡ hi - lo = omega (arith, i.0, i.1, c.loop-row-test.false) in
     record {
-      list = subst (λ k. c.loop-row.list.items ≡ imports_by (used_in c.args.ends.now.checked.now c.args.span.own) lo hi k) end i.2.list;
+      list = subst
+          (λ k. c.loop-row.list.items ≡ imports_by (used_in c.args.ends.now.checked.now c.args.span.own) lo hi k) end
+          i.2.list;
       marks = record { many = i.2.many; below = i.2.marked.below };
     }

@@ -1,5 +1,6 @@
 -- The upper bound of an index, the variables, and the imports of the head.
-use Rattle.std.proofs.Common.{◌≡◌, ◌<◌, ◌+◌, refl, [], ◌∷◌, true, ◌++◌, ap, sym, ◌∙◌, subst, arith, append_assoc, if◌then◌else◌, IfOk}
+use Rattle.std.proofs.Common.{◌≡◌, ◌<◌, ◌+◌, refl, [], ◌∷◌, true, ◌++◌, ap, sym, ◌∙◌, subst, arith, append_assoc}
+use Rattle.std.proofs.Common.{if◌then◌else◌, IfOk}
 use Rattle.std.proofs.lemmas.List.{get_or_default}
 use Rattle.id_check.specs.Programs.{rows}
 use Rattle.id_table.specs.declared.row.Row.{Row}
@@ -50,7 +51,8 @@ returns c =
     let low : g < s = omega (arith, w.0, here) in
     let bound : c.if-has_index.list.items ≡ bound_of P g = elim c.if-has_index.branch [
       | then-has_index+in_ok-push v ↦
-          ap (λ l. l.items) v.list-is ∙ v.in_ok-push.ensures.items ∙ ap (λ z. z ++ ((g + 2) ∷ [])) c.new-list.ensures.items
+          ap (λ l. l.items) v.list-is ∙ v.in_ok-push.ensures.items
+          ∙ ap (λ z. z ++ ((g + 2) ∷ [])) c.new-list.ensures.items
           ∙ sym (ap (λ t. if t then ((g + 2) ∷ []) else []) (sym c.has_index.ensures ∙ v.if-has_index.true))
       | else-has_index v ↦
           ap (λ l. l.items) v.list-is ∙ c.new-list.ensures.items
@@ -58,7 +60,8 @@ returns c =
     ] in
     let own : c.extend_from_slice.new.self.items ≡ imports_of P s =
     c.in_ok-extend_from_slice.ensures.items ∙ ap (λ z. z ++ c.as_slice.result.now) c.in_ok-add_nexts.ensures
-    ∙ ap (λ z. (z ++ nexts_of P g) ++ c.as_slice.result.now) bound ∙ append_assoc (bound_of P g) (nexts_of P g) c.as_slice.result.now
+    ∙ ap (λ z. (z ++ nexts_of P g) ++ c.as_slice.result.now) bound
+    ∙ append_assoc (bound_of P g) (nexts_of P g) c.as_slice.result.now
     ∙ ap (λ z. bound_of P g ++ (nexts_of P g ++ z)) (c.as_slice.ensures ∙ c.index-lists-head.is
     ∙ get_or_default c.args.lists.now g c.index-lists-head.result [] (omega (arith, low, within, c.requires.lists.many))
     ∙ c.requires.lists.imported g low (omega (arith, low, within)))

@@ -12,7 +12,8 @@ pub gather-requires : goal.gather-requires
 gather-requires c = record {
   within = omega (
     arith,
-    end_within c.args.ends.now.checked.now c.args.head (row_inside (rows c.args.ends.now.checked.now) c.args.head is_loop_head refl
+    end_within c.args.ends.now.checked.now c.args.head
+        (row_inside (rows c.args.ends.now.checked.now) c.args.head is_loop_head refl
         c.requires.head),
     c.end_of.ensures,
   );

@@ -12,8 +12,13 @@ returns-then-not-is_opening c = inl refl
 pub returns-in-Some : goal.returns-in-Some
 returns-in-Some c =
     let P = c.args.ends.now.checked.now in
-    let opens = sym (c.is_opening.ensures ∙ ap (λ (r : Row). is_opening r.node) c.row_at.ensures) ∙ c.if-not-is_opening.false in
-    inr (sym (c.args.ends.now.ended.each c.args.row (row_inside (rows P) c.args.row is_opening refl opens)) ∙ sym c.in-Some.ensures.row, opens)
+    let opens =
+    sym (c.is_opening.ensures ∙ ap (λ (r : Row). is_opening r.node) c.row_at.ensures) ∙ c.if-not-is_opening.false in
+    inr (
+      sym (c.args.ends.now.ended.each c.args.row (row_inside (rows P) c.args.row is_opening refl opens))
+          ∙ sym c.in-Some.ensures.row,
+      opens,
+    )
 
 pub returns-in-None : goal.returns-in-None
 returns-in-None c = inl refl

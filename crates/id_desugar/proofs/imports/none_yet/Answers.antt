@@ -10,7 +10,8 @@ loop-row-init c = (ap length c.in_ok-lists.ensures.items, λ h. ap (λ xs. get_o
 pub loop-row-preserved : goal.loop-row-preserved
 loop-row-preserved c =
     let old = c.loop-row.lists.items in
-    let new : c.push.new.self.items ≡ old ++ [] ∷ [] = c.in_ok-push.ensures.items ∙ ap (λ xs. old ++ xs ∷ []) c.none.ensures in (
+    let new : c.push.new.self.items ≡ old ++ [] ∷ [] =
+    c.in_ok-push.ensures.items ∙ ap (λ xs. old ++ xs ∷ []) c.none.ensures in (
       ap length new ∙ length_push old [] ∙ ap (λ n. n + 1) c.loop-row.invariant.0,
       λ h. ap (λ xs. get_or xs h []) new ∙ none_more old c.loop-row.invariant.1 h,
     )

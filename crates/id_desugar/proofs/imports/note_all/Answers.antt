@@ -25,14 +25,17 @@ loop-binder-preserved c =
     let hi = c.args.span.hi in
     let i = c.loop-binder.binder-index in
     let next : suc i ≡ i + 1 = omega arith in
-    let list = c.in_ok-note.ensures.list ∙ ap (λ z. with_use lo hi z (Some (get_or c.args.binders.now i 0))) c.loop-binder.invariant.0
+    let list =
+    c.in_ok-note.ensures.list
+    ∙ ap (λ z. with_use lo hi z (Some (get_or c.args.binders.now i 0))) c.loop-binder.invariant.0
     ∙ sym (with_uses-next lo hi c.args.list.now.items c.args.binders.now i c.loop-binder-test.true)
     ∙ ap (λ n. with_uses lo hi c.args.list.now.items (take n c.args.binders.now)) next in
     (list, c.in_ok-note.ensures.long ∙ c.loop-binder.invariant.1, c.in_ok-note.ensures.marks)
 
 pub returns-clause-list : goal.returns-clause-list
 returns-clause-list c = c.loop-binder.invariant.0
-    ∙ ap (with_uses c.args.span.lo c.args.span.hi c.args.list.now.items) (take_all c.loop-binder.binder-index c.args.binders.now c.loop-binder-test.false)
+    ∙ ap (with_uses c.args.span.lo c.args.span.hi c.args.list.now.items)
+    (take_all c.loop-binder.binder-index c.args.binders.now c.loop-binder-test.false)
 
 pub returns-clause-marks : goal.returns-clause-marks
 returns-clause-marks c = c.loop-binder.invariant.2

@@ -1,5 +1,6 @@
 -- What a row uses is noted, and what the construct uses that begins there.
-use Rattle.std.proofs.Common.{◌≡◌, ◌⊎◌, inl, inr, ℕ, ◌+◌, ◌-◌, ◌<◌, ◌≤◌, true, List, [], Option, ◌∙◌, subst, arith, length, get_or}
+use Rattle.std.proofs.Common.{◌≡◌, ◌⊎◌, inl, inr, ℕ, ◌+◌, ◌-◌, ◌<◌, ◌≤◌, true, List, [], Option, ◌∙◌, subst, arith}
+use Rattle.std.proofs.Common.{length, get_or}
 use Rattle.std.specs.Prelude.{Some}
 use Rattle.std.proofs.lemmas.List.{get_or_default}
 use Rattle.id_check.specs.declared.checked.Checked.{Checked}
@@ -15,7 +16,8 @@ use Rattle.id_desugar.proofs.imports.note_row.Goals as goal
 pub note_used-requires : goal.note_used-requires
 note_used-requires c = record {
   marks = c.requires.noted.marked;
-  binder = used_within c.args.ends.now.checked.now c.args.span.own c.args.row (length c.args.marks.now.items) c.used_at.result
+  binder = used_within c.args.ends.now.checked.now c.args.span.own c.args.row (length c.args.marks.now.items)
+      c.used_at.result
       (omega (arith, c.requires.row.1, c.requires.within)) c.used_at.ensures c.requires.noted.many;
 }
 
@@ -24,9 +26,10 @@ inner n row l (inl z) = absurd (omega arith)
 inner n row l (inr a) = a
 
 -- what the inner list holds
-listed : (P : Checked) (own : Option ℕ) (lo hi s e : ℕ) (L : List (List ℕ)) (xs : List ℕ) → AreGathered P lo hi L → AllCount P own lo hi → hi < length (rows P)
-    → lo ≤ s
-    → s < e → e < hi → xs ≡ get_or L s xs → e ≡ 0 ⊎ ((end_row P s ≡ Some e) × (is_opening (at (rows P) s).node ≡ true)) → xs ≡ imports (used_in P own) (s + 1) e
+listed : (P : Checked) (own : Option ℕ) (lo hi s e : ℕ) (L : List (List ℕ)) (xs : List ℕ) → AreGathered P lo hi L
+    → AllCount P own lo hi → hi < length (rows P) → lo ≤ s
+    → s < e → e < hi → xs ≡ get_or L s xs → e ≡ 0 ⊎ ((end_row P s ≡ Some e) × (is_opening (at (rows P) s).node ≡ true))
+    → xs ≡ imports (used_in P own) (s + 1) e
 listed P own lo hi s e L xs f count w low l m is h =
     let d = inner e s l h in
     is ∙ get_or_default L s xs [] (omega (arith, f.many, w, l, m))
@@ -40,9 +43,12 @@ note_all-requires c =
     let s = c.args.row in
     let xs = c.index-lists-row.result in
     let list : c.as_slice.result.now ≡ imports (used_in P own) (s + 1) e =
-    c.as_slice.ensures ∙ listed P own c.args.span.lo c.args.span.hi s e c.args.lists.now xs c.requires.lists c.requires.count c.requires.within c.requires.row.0
+    c.as_slice.ensures
+    ∙ listed P own c.args.span.lo c.args.span.hi s e c.args.lists.now xs c.requires.lists c.requires.count
+    c.requires.within c.requires.row.0
     c.if-row-next.true c.if-next-span.true c.index-lists-row.is c.inner_end-next.ensures in
-    let within : (s + 1) + (e - (s + 1)) ≤ length (rows P) = omega (arith, c.if-row-next.true, c.if-next-span.true, c.requires.within) in
+    let within : (s + 1) + (e - (s + 1)) ≤ length (rows P) =
+    omega (arith, c.if-row-next.true, c.if-next-span.true, c.requires.within) in
     record {
       marks = c.in_ok-note_used.ensures.marks;
       binders = λ b h. (
@@ -63,14 +69,16 @@ returns-then-next-span c =
     let one = imports_by-next (used_in P own) lo hi s c.args.list.now.items c.note_used.new.list.items c.used_at.result
     c.requires.row.0 c.requires.noted.list c.used_at.ensures c.in_ok-note_used.ensures.list in
     let list : c.as_slice.result.now ≡ imports (used_in P own) (s + 1) e =
-    c.as_slice.ensures ∙ listed P own lo hi s e c.args.lists.now xs c.requires.lists c.requires.count c.requires.within c.requires.row.0
+    c.as_slice.ensures
+    ∙ listed P own lo hi s e c.args.lists.now xs c.requires.lists c.requires.count c.requires.within c.requires.row.0
     c.if-row-next.true c.if-next-span.true c.index-lists-row.is c.inner_end-next.ensures in
     record {
       row = (c.if-row-next.true, omega (arith, c.if-next-span.true));
       noted = record {
         many = c.in_ok-note_all.ensures.long ∙ c.in_ok-note_used.ensures.long ∙ c.requires.noted.many;
         marked = c.in_ok-note_all.ensures.marks;
-        list = imports_by-over (used_in P own) lo hi s e c.note_used.new.list.items c.as_slice.result.now c.note_all.new.list.items c.requires.row.0
+        list = imports_by-over (used_in P own) lo hi s e c.note_used.new.list.items c.as_slice.result.now
+            c.note_all.new.list.items c.requires.row.0
             c.if-row-next.true (omega (arith, c.if-next-span.true)) one list c.in_ok-note_all.ensures.list;
       };
     }
@@ -81,8 +89,10 @@ returns c = record {
   noted = record {
     many = c.in_ok-note_used.ensures.long ∙ c.requires.noted.many;
     marked = c.in_ok-note_used.ensures.marks;
-    list = imports_by-next (used_in c.args.ends.now.checked.now c.args.span.own) c.args.span.lo c.args.span.hi c.args.row c.args.list.now.items
-        c.note_used.new.list.items c.used_at.result c.requires.row.0 c.requires.noted.list c.used_at.ensures c.in_ok-note_used.ensures.list;
+    list = imports_by-next (used_in c.args.ends.now.checked.now c.args.span.own) c.args.span.lo c.args.span.hi
+        c.args.row c.args.list.now.items
+        c.note_used.new.list.items c.used_at.result c.requires.row.0 c.requires.noted.list c.used_at.ensures
+        c.in_ok-note_used.ensures.list;
   };
 }
 

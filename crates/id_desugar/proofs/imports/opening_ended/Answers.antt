@@ -11,8 +11,10 @@ not_both false e h = cc
 pub returns-in_default-clause-none : goal.returns-in_default-clause-none
 returns-in_default-clause-none c _ =
     let begun = sym (c.begun_at-begun.ensures ∙ ap (λ r. begun_at r.node) c.row_at.ensures) ∙ c.in-Some.is in
-    ends_no_opening c.args.ends.now.checked.now c.args.end c.in-Some.opening begun (λ h. not_both c.is_ended.result c.if-is_ended.false (c.is_ended.ensures.1 h))
+    ends_no_opening c.args.ends.now.checked.now c.args.end c.in-Some.opening begun
+    (λ h. not_both c.is_ended.result c.if-is_ended.false (c.is_ended.ensures.1 h))
 
 pub returns-in_default-2-clause-none : goal.returns-in_default-2-clause-none
 returns-in_default-2-clause-none c _ =
-    ends_nothing c.args.ends.now.checked.now c.args.end c.begun_at-begun.result (c.begun_at-begun.ensures ∙ ap (λ r. begun_at r.node) c.row_at.ensures) c.in_default.is
+    ends_nothing c.args.ends.now.checked.now c.args.end c.begun_at-begun.result (c.begun_at-begun.ensures
+    ∙ ap (λ r. begun_at r.node) c.row_at.ensures) c.in_default.is

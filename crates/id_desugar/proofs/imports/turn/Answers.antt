@@ -15,25 +15,35 @@ use Rattle.id_desugar.proofs.imports.turn.Goals as goal
 pub imports_of_loop-requires : goal.imports_of_loop-requires
 imports_of_loop-requires c = record {
   head = ap (λ (r : Row). is_loop_head r.node) (sym c.row_at.ensures) ∙ ap is_loop_head c.in-LoopHead.is;
-  lists = subst (AreTurned c.args.spans.now.ends.checked.now c.args.row) (sym c.as_slice.ensures.value) c.requires.lists;
+  lists = subst (AreTurned c.args.spans.now.ends.checked.now c.args.row) (sym c.as_slice.ensures.value)
+      c.requires.lists;
   marks = c.requires.marks;
 }
 
 pub handed_on-requires : goal.handed_on-requires
 handed_on-requires c = record {
-  lists = subst (AreTurned c.args.spans.now.ends.checked.now c.args.row) (sym c.as_slice-in-Switches.ensures.value) c.requires.lists;
+  lists = subst (AreTurned c.args.spans.now.ends.checked.now c.args.row) (sym c.as_slice-in-Switches.ensures.value)
+      c.requires.lists;
   node = ap (λ (r : Row). is_switches r.node) (sym c.row_at.ensures) ∙ ap is_switches c.in-Switches.is;
 }
 
 pub index_mut-requires : goal.index_mut-requires
 index_mut-requires c =
     let head = ap (λ (r : Row). is_loop_head r.node) (sym c.row_at.ensures) ∙ ap is_loop_head c.in-LoopHead.is in
-    omega (arith, row_inside (rows c.args.spans.now.ends.checked.now) c.args.row is_loop_head refl head, c.requires.lists.many)
+    omega (
+      arith,
+      row_inside (rows c.args.spans.now.ends.checked.now) c.args.row is_loop_head refl head,
+      c.requires.lists.many,
+    )
 
 pub index_mut-requires-in-Switches : goal.index_mut-requires-in-Switches
 index_mut-requires-in-Switches c =
     let node = ap (λ (r : Row). is_switches r.node) (sym c.row_at.ensures) ∙ ap is_switches c.in-Switches.is in
-    omega (arith, row_inside (rows c.args.spans.now.ends.checked.now) c.args.row is_switches refl node, c.requires.lists.many)
+    omega (
+      arith,
+      row_inside (rows c.args.spans.now.ends.checked.now) c.args.row is_switches refl node,
+      c.requires.lists.many,
+    )
 
 pub returns-in_ok-imports-in-LoopHead : goal.returns-in_ok-imports-in-LoopHead
 returns-in_ok-imports-in-LoopHead c =

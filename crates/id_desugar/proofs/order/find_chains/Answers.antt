@@ -12,8 +12,13 @@ loop-row-init c =
     let F = c.in_ok-none.field-0 in
     let N = c.in_ok-none-2.field-0 in (
       omega arith,
-      AreChains-none c.args.checked.now c.args.last F N (omega (arith, long-nothing n F c.in_ok-none.ensures, c.len-count.ensures))
-          (omega (arith, long-nothing n N c.in_ok-none-2.ensures, c.len-count.ensures)) (λ h. ap (λ z. get_or z h None) c.in_ok-none.ensures
+      AreChains-none c.args.checked.now c.args.last F N (omega (
+        arith,
+        long-nothing n F c.in_ok-none.ensures,
+        c.len-count.ensures,
+      ))
+          (omega (arith, long-nothing n N c.in_ok-none-2.ensures, c.len-count.ensures))
+          (λ h. ap (λ z. get_or z h None) c.in_ok-none.ensures
           ∙ nothing-at n h),
     )
 
@@ -23,7 +28,8 @@ link-requires c =
     record {
       last = c.requires.last;
       row = omega (arith, c.loop-row.invariant.0, c.loop-row-test.true);
-      chains = subst (λ r. AreChains c.args.checked.now r c.args.last c.loop-row.chains.firsts c.loop-row.chains.nexts) up c.loop-row.invariant.1;
+      chains = subst (λ r. AreChains c.args.checked.now r c.args.last c.loop-row.chains.firsts c.loop-row.chains.nexts)
+          up c.loop-row.invariant.1;
     }
 
 pub loop-row-preserved : goal.loop-row-preserved
@@ -32,4 +38,5 @@ loop-row-preserved c = (omega (arith, c.loop-row.invariant.0), c.link.ensures)
 pub returns : goal.returns
 returns c =
     let none : c.loop-row.row ≡ 0 = omega (arith, c.loop-row-test.false) in
-    subst (λ r. AreChains c.args.checked.now r c.args.last c.loop-row.chains.firsts c.loop-row.chains.nexts) none c.loop-row.invariant.1
+    subst (λ r. AreChains c.args.checked.now r c.args.last c.loop-row.chains.firsts c.loop-row.chains.nexts) none
+    c.loop-row.invariant.1

@@ -1,5 +1,6 @@
 -- The chain goes on, or ends.
-use Rattle.std.proofs.Common.{◌+◌, ◌<◌, ◌∷◌, ◌++◌, [], Some, None, ap, sym, ◌∙◌, subst, arith, append-nil, append_assoc, get_or}
+use Rattle.std.proofs.Common.{◌+◌, ◌<◌, ◌∷◌, ◌++◌, [], Some, None, ap, sym, ◌∙◌, subst, arith, append-nil, append_assoc}
+use Rattle.std.proofs.Common.{get_or}
 use Rattle.id_desugar.specs.Gathering.{IsFirstFrom}
 use Rattle.id_desugar.specs.Regions.{in_block, those}
 use Rattle.id_desugar.proofs.OrderLemmas.{AreReached, AreReached-from, next_of_block, rest, rest-less, those-yes}
@@ -11,7 +12,8 @@ loop-at-init c =
     let h = c.args.head in
     let old = c.args.order.now.items in
     AreReached-from (in_block P h) 0 c.args.last old old c.get-at.result (omega arith)
-    (subst (IsFirstFrom (in_block P h) 0 c.args.last) (sym c.get-at.ensures.row) (c.requires.chains.first h (omega (arith, c.requires.head, c.requires.last))))
+    (subst (IsFirstFrom (in_block P h) 0 c.args.last) (sym c.get-at.ensures.row)
+    (c.requires.chains.first h (omega (arith, c.requires.head, c.requires.last))))
     (sym (append-nil old))
 
 pub loop-at-smaller : goal.loop-at-smaller
@@ -25,8 +27,10 @@ loop-at-smaller c =
     subst (AreReached f n c.args.order.now.items c.loop-at.order.items) c.in-Some.is c.loop-at.invariant in
     let low = r.0 in
     let is = c.get-at-in-Some.ensures.row in
-    subst (λ z. rest n c.get-at-in-Some.result < rest n z) (sym c.in-Some.is) (subst (λ z. rest n z < rest n (Some row)) (sym is)
-    (rest-less f n row (get_or N row None) low (next_of_block P c.args.head n row c.args.chains.now.firsts N c.requires.chains low r.1)))
+    subst (λ z. rest n c.get-at-in-Some.result < rest n z) (sym c.in-Some.is)
+    (subst (λ z. rest n z < rest n (Some row)) (sym is)
+    (rest-less f n row (get_or N row None) low
+    (next_of_block P c.args.head n row c.args.chains.now.firsts N c.requires.chains low r.1)))
 
 pub loop-at-preserved : goal.loop-at-preserved
 loop-at-preserved c =
@@ -36,7 +40,8 @@ loop-at-preserved c =
     let n = c.args.last in
     let old = c.args.order.now.items in
     let row = c.in-Some.row in
-    let r : AreReached f n old c.loop-at.order.items (Some row) = subst (AreReached f n old c.loop-at.order.items) c.in-Some.is c.loop-at.invariant in
+    let r : AreReached f n old c.loop-at.order.items (Some row) =
+    subst (AreReached f n old c.loop-at.order.items) c.in-Some.is c.loop-at.invariant in
     let low = r.0 in
     let is = c.get-at-in-Some.ensures.row in
     let new = c.in_ok-push.ensures.items ∙ ap (λ z. z ++ row ∷ []) r.2 ∙ append_assoc old (those f row) (row ∷ [])

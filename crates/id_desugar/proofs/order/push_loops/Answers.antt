@@ -25,7 +25,8 @@ loop-head-init c = sym (append-nil c.args.order.now.items)
 pub returns-then-is_empty : goal.returns-then-is_empty
 returns-then-is_empty c =
     let old = c.args.order.now.items in
-    let none = loops_by-none c.args.checked.now c.args.last c.args.loops.now (sym c.is_empty.ensures ∙ c.if-is_empty.true) in
+    let none =
+    loops_by-none c.args.checked.now c.args.last c.args.loops.now (sym c.is_empty.ensures ∙ c.if-is_empty.true) in
     sym (ap (λ z. old ++ z) none ∙ append-nil old)
 
 pub find_chains-requires : goal.find_chains-requires
@@ -34,11 +35,13 @@ find_chains-requires c = record { last = c.requires.last }
 pub push_block-requires : goal.push_block-requires
 push_block-requires c = record {
   last = c.requires.last;
-  head = c.requires.loops (get_or c.args.loops.now c.loop-head.head-index 0) (among_at c.args.loops.now c.loop-head.head-index c.loop-head-test.true);
+  head = c.requires.loops (get_or c.args.loops.now c.loop-head.head-index 0)
+      (among_at c.args.loops.now c.loop-head.head-index c.loop-head-test.true);
   chains = c.in_ok-chains.ensures;
 }
 
 pub returns : goal.returns
 returns c =
     c.loop-head.invariant
-    ∙ ap (λ hs. c.args.order.now.items ++ loops_by c.args.checked.now c.args.last hs) (take_all c.loop-head.head-index c.args.loops.now c.loop-head-test.false)
+    ∙ ap (λ hs. c.args.order.now.items ++ loops_by c.args.checked.now c.args.last hs)
+    (take_all c.loop-head.head-index c.args.loops.now c.loop-head-test.false)

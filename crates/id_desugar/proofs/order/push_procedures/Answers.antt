@@ -12,7 +12,8 @@ loop-row-preserved c =
     let old = c.args.order.now.items in
     elim c.if-is_in_procedure.branch [
       | then-is_in_procedure+in_ok-push w ↦
-          ap (λ o. o.items) w.order-is ∙ w.in_ok-push.ensures.items ∙ ap (λ z. z ++ row ∷ []) c.loop-row.invariant ∙ append_assoc old (those f row) (row ∷ [])
+          ap (λ o. o.items) w.order-is ∙ w.in_ok-push.ensures.items ∙ ap (λ z. z ++ row ∷ []) c.loop-row.invariant
+          ∙ append_assoc old (those f row) (row ∷ [])
           ∙ ap (λ z. old ++ z) (sym (those-yes f row (sym c.is_in_procedure.ensures ∙ w.if-is_in_procedure.true)))
       | else-is_in_procedure w ↦
           ap (λ o. o.items) w.order-is ∙ c.loop-row.invariant
@@ -25,4 +26,5 @@ loop-row-init c = sym (append-nil c.args.order.now.items)
 pub returns : goal.returns
 returns c =
     let end : c.loop-row.row ≡ c.args.last = omega (arith, c.loop-row-test.false, c.loop-row.auto.row-end) in
-    subst (λ n. c.loop-row.order.items ≡ c.args.order.now.items ++ those (in_procedure c.args.checked.now) n) end c.loop-row.invariant
+    subst (λ n. c.loop-row.order.items ≡ c.args.order.now.items ++ those (in_procedure c.args.checked.now) n) end
+    c.loop-row.invariant

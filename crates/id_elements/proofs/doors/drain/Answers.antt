@@ -13,7 +13,9 @@ loop-preserved g c =
       parts = ap (λ (d : DoorView). d.hand.parts) made ∙ i.parts;
       sent = ap (λ (d : DoorView). d.hand.sent) made ∙ i.sent;
       moved = λ f.
-          let a : sum_by f c.pop.new.self.hand.taken ≡ sum_by f (c.loop.door.hand.taken ++ c.in-Some-pop.letter.messages) = ap (λ (d : DoorView). sum_by f d.hand.taken) made in
+          let a : sum_by f c.pop.new.self.hand.taken
+          ≡ sum_by f (c.loop.door.hand.taken ++ c.in-Some-pop.letter.messages) =
+          ap (λ (d : DoorView). sum_by f d.hand.taken) made in
           let b = c.in_ok-keep_rest-in-Some-pop.ensures f in
           let m = i.moved f in
           omega (arith, a, b, m, sum_by-append f c.loop.door.hand.taken c.in-Some-pop.letter.messages);
@@ -28,12 +30,15 @@ returns-in-None-pop g c =
       parts = ap (λ (d : DoorView). d.hand.parts) same ∙ i.parts;
       sent = ap (λ (d : DoorView). d.hand.sent) same ∙ i.sent;
       moved = λ f.
-          let a : sum_by f c.pop.new.self.hand.taken ≡ sum_by f c.loop.door.hand.taken = ap (λ (d : DoorView). sum_by f d.hand.taken) same in
+          let a : sum_by f c.pop.new.self.hand.taken ≡ sum_by f c.loop.door.hand.taken =
+          ap (λ (d : DoorView). sum_by f d.hand.taken) same in
           let m = i.moved f in
           omega (arith, a, m);
       empty = λ f.
-          let a : sum_by f c.pop.new.self.hand.sent ≡ sum_by f c.loop.door.hand.sent = ap (λ (d : DoorView). sum_by f d.hand.sent) same in
-          let b : sum_by f c.pop.new.self.hand.taken ≡ sum_by f c.loop.door.hand.taken = ap (λ (d : DoorView). sum_by f d.hand.taken) same in
+          let a : sum_by f c.pop.new.self.hand.sent ≡ sum_by f c.loop.door.hand.sent =
+          ap (λ (d : DoorView). sum_by f d.hand.sent) same in
+          let b : sum_by f c.pop.new.self.hand.taken ≡ sum_by f c.loop.door.hand.taken =
+          ap (λ (d : DoorView). sum_by f d.hand.taken) same in
           let k = c.in-None-pop.ensures.1 (i.parts ∙ c.requires) f in
           omega (arith, a, b, k);
     }

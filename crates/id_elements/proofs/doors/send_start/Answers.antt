@@ -12,7 +12,8 @@ loop-position-preserved g c =
     let d = c.index_mut.result.now in
     let d' = c.put.new.door in
     let to = c.route-to.result in
-    let lt : to < length ds = (let b = c.route-to.ensures.below in let l = i.len in let k = c.len-count.ensures in omega arith) in
+    let lt : to < length ds =
+    (let b = c.route-to.ensures.below in let l = i.len in let k = c.len-count.ensures in omega arith) in
     let is = c.index_mut.ensures.value in
     let made = c.in_ok-put.ensures.ok in
     record {
@@ -22,7 +23,8 @@ loop-position-preserved g c =
       whole = λ f.
           let s = sent_by-set f ds to d d' is lt in
           let t = taken_by-set f ds to d d' is lt in
-          let a : sum_by f d'.hand.sent ≡ sum_by f (d.hand.sent ++ c.message-message.result ∷ []) = ap (λ (y : DoorView). sum_by f y.hand.sent) made in
+          let a : sum_by f d'.hand.sent ≡ sum_by f (d.hand.sent ++ c.message-message.result ∷ []) =
+          ap (λ (y : DoorView). sum_by f y.hand.sent) made in
           let b : sum_by f d'.hand.taken ≡ sum_by f d.hand.taken = ap (λ (y : DoorView). sum_by f y.hand.taken) made in
           let w = i.whole f in
           omega (
@@ -33,6 +35,7 @@ loop-position-preserved g c =
             b,
             w,
             sum_by_push f d.hand.sent c.message-message.result,
-            weight_take f c.args.start.now.messages c.loop-position.position c.message-message.result c.message-message.ensures,
+            weight_take f c.args.start.now.messages c.loop-position.position c.message-message.result
+                c.message-message.ensures,
           );
     }

@@ -7,7 +7,9 @@ loop-number-preserved c =
     let lt : c.loop-number.number < length c.args.doors.now.items = search rules in
     record {
       len = search rules;
-      splitting = rw c.in_ok-push.ensures.items (split_more _ _ _ _ _ _ _ lt c.loop-number.invariant.splitting c.index_mut.ensures.value
+      splitting =
+          rw c.in_ok-push.ensures.items
+          (split_more _ _ _ _ _ _ _ lt c.loop-number.invariant.splitting c.index_mut.ensures.value
           c.in_ok-split.ensures.old c.in_ok-split.ensures.new);
     }
 

@@ -5,7 +5,14 @@ use Rattle.id_elements.proofs.drawn.deliver_drawn.Goals as goal
 
 pub loop-from-init : goal.loop-from-init
 loop-from-init c = record {
-  on = record { same_graph = refl; same_count = refl; same_keeps = refl; few = c.requires.few; accounted = λ start was. was };
+  on = record {
+    same_graph = refl;
+    same_count = refl;
+    same_keeps = refl;
+    few = c.requires.few;
+    accounted =
+        λ start was. was;
+  };
   delivered = delivered_none c.args.machine.now.graph c.args.machine.now.count c.args.machine.now.world;
   went = c.requires.went;
   within = omega arith;
@@ -19,7 +26,8 @@ returns-then-from-len c =
       finished = record {
         on = i.on;
         stops = λ _. stop_where_went c.loop-from.machine.world i.went;
-        honest = λ went. all_held c.loop-from.machine.count c.args.steps c.loop-from.machine.world c.first_free-from.result c.first_free-from.ensures.held
+        honest = λ went. all_held c.loop-from.machine.count c.args.steps c.loop-from.machine.world
+            c.first_free-from.result c.first_free-from.ensures.held
             (c.if-from-len.true ∙ (c.len.ensures ∙ ap length c.in_flight.ensures.value));
       };
       delivered = i.delivered;
@@ -31,12 +39,15 @@ returns-then-not-branch c =
     record {
       finished = record {
         on = goes_on_more c.args.steps c.args.machine.now c.loop-from.machine c.deliver.new.machine i.on
-            (goes_on c.args.steps c.choose-position.result c.loop-from.machine c.deliver.new.machine c.choose-position.ensures.free
+            (goes_on c.args.steps c.choose-position.result c.loop-from.machine c.deliver.new.machine
+            c.choose-position.ensures.free
             c.in_ok-deliver.ensures.world i.on.few);
         stops = λ _. (c.in_ok-deliver.ensures.went i.went).1;
         honest = λ went. absurd (c.in_ok-deliver.ensures.failed c.if-not-branch.true went);
       };
-      delivered = delivered_more c.args.machine.now c.loop-from.machine c.deliver.new.machine c.choose-position.result i.delivered i.on.same_graph i.on.same_count
+      delivered =
+          delivered_more c.args.machine.now c.loop-from.machine c.deliver.new.machine c.choose-position.result
+          i.delivered i.on.same_graph i.on.same_count
           c.in_ok-deliver.ensures.world;
     }
 
@@ -49,14 +60,19 @@ loop-from-preserved c =
     record {
       on = goes_on_more c.args.steps c.args.machine.now c.loop-from.machine c.deliver.new.machine i.on
           (goes_on c.args.steps k c.loop-from.machine c.deliver.new.machine free is i.on.few);
-      delivered = delivered_more c.args.machine.now c.loop-from.machine c.deliver.new.machine k i.delivered i.on.same_graph i.on.same_count is;
+      delivered =
+          delivered_more c.args.machine.now c.loop-from.machine c.deliver.new.machine k i.delivered i.on.same_graph
+          i.on.same_count is;
       went = (c.in_ok-deliver.ensures.went i.went).0 c.if-not-branch.false;
-      within = within_upto c.args.steps k c.loop-from.machine c.deliver.new.machine free is c.first_free-from.result c.choose-position.ensures.from;
-      held = held_upto c.args.steps k c.loop-from.machine c.deliver.new.machine free is c.first_free-from.result c.choose-position.ensures.from
+      within = within_upto c.args.steps k c.loop-from.machine c.deliver.new.machine free is c.first_free-from.result
+          c.choose-position.ensures.from;
+      held = held_upto c.args.steps k c.loop-from.machine c.deliver.new.machine free is c.first_free-from.result
+          c.choose-position.ensures.from
           c.first_free-from.ensures.held;
     }
 
 pub loop-from-smaller : goal.loop-from-smaller
 loop-from-smaller c =
     let i = c.loop-from.invariant in
-    fewer_left c.args.steps c.choose-position.result c.loop-from.machine c.deliver.new.machine c.choose-position.ensures.free c.in_ok-deliver.ensures.world i.on.few
+    fewer_left c.args.steps c.choose-position.result c.loop-from.machine c.deliver.new.machine
+    c.choose-position.ensures.free c.in_ok-deliver.ensures.world i.on.few

@@ -14,6 +14,8 @@ returns c =
     let es = c.elements.result.now in
     let e = c.in-Some.element.now in
     let at : slice_get es c.route.result ≡ Some e =
-    slice_get_read es _ _ _ refl (lt_of c.route.result (length es) (c.in-Some.ensures.lookup).0) (c.in-Some.ensures.lookup).1 in
-    element_at c.args.machine.now.world c.args.machine.now.count c.route.result es e c.args.message.now c.elements.ensures.world at
+    slice_get_read es _ _ _ refl (lt_of c.route.result (length es) (c.in-Some.ensures.lookup).0)
+    (c.in-Some.ensures.lookup).1 in
+    element_at c.args.machine.now.world c.args.machine.now.count c.route.result es e c.args.message.now
+    c.elements.ensures.world at
     (c.route.ensures.exact ∙ ap (route_of c.args.message.now.payload) c.count-count.ensures)

@@ -7,7 +7,14 @@ use Rattle.id_elements.proofs.finish.finish.Goals.{In_ok-deliver}
 
 pub loop-init : goal.loop-init
 loop-init g c = record {
-  on = record { same_graph = refl; same_count = refl; same_keeps = refl; few = c.requires; accounted = λ start was. was };
+  on = record {
+    same_graph = refl;
+    same_count = refl;
+    same_keeps = refl;
+    few = c.requires;
+    accounted =
+        λ start was. was;
+  };
   went = c.all_went.ensures.0 c.if-not-all_went.false;
   within = omega arith;
   held = λ j m lt at. absurd (omega (arith, lt));
@@ -19,7 +26,8 @@ returns-then-position-len g c =
     record {
       on = i.on;
       stops = λ _. stop_where_went c.loop.machine.world i.went;
-      honest = λ went. all_held c.loop.machine.count c.args.steps c.loop.machine.world c.first_free-position.result c.first_free-position.ensures.held
+      honest = λ went. all_held c.loop.machine.count c.args.steps c.loop.machine.world c.first_free-position.result
+          c.first_free-position.ensures.held
           (c.if-position-len.true ∙ (c.len.ensures ∙ ap length c.in_flight.ensures.value));
     }
 
@@ -30,7 +38,8 @@ module _ (g : _) (c : In_ok-deliver g) where
 
   on : GoesOn c.args.steps c.args.machine.now c.deliver.new.machine
   on = goes_on_more c.args.steps c.args.machine.now c.loop.machine c.deliver.new.machine c.loop.invariant.on
-      (goes_on c.args.steps c.first_free-position.result c.loop.machine c.deliver.new.machine free c.in_ok-deliver.ensures.world c.loop.invariant.on.few)
+      (goes_on c.args.steps c.first_free-position.result c.loop.machine c.deliver.new.machine free
+      c.in_ok-deliver.ensures.world c.loop.invariant.on.few)
 
 pub returns-then-not-branch : goal.returns-then-not-branch
 returns-then-not-branch g c = record {

@@ -9,7 +9,8 @@ returns c =
     let there : slice_get w.flight c.args.position ≡ Some x =
     ap (λ l. slice_get l c.args.position) (sym c.in_flight.ensures.value) ∙ c.message-message.ensures in
     record {
-      held = λ so. held_by w c.args.machine.now.count c.args.steps c.args.position _ x there c.element_for.ensures (c.takes_no_more.ensures.held so);
+      held = λ so. held_by w c.args.machine.now.count c.args.steps c.args.position _ x there c.element_for.ensures
+          (c.takes_no_more.ensures.held so);
       free = λ no. free_by w c.args.machine.now.count c.args.steps c.args.position _ x there c.element_for.ensures
           (c.takes_no_more.ensures.some no) (c.takes_no_more.ensures.stamp no);
     }

@@ -5,6 +5,7 @@ use Rattle.id_elements.proofs.passing.send_some.Given as goal
 
 abbrev pub invariant-loop : goal.invariant-loop
 invariant-loop l = record {
-  sending : IsSending l.near.home.number l.sent l.counter l.fn.own.messages l.fn.back.messages l.fn.letters.items l.own.messages l.back.messages l.letters.items;
+  sending : IsSending l.near.home.number l.sent l.counter l.fn.own.messages l.fn.back.messages l.fn.letters.items
+      l.own.messages l.back.messages l.letters.items;
   room : l.sent ≤ l.back.room + l.counter;
 }

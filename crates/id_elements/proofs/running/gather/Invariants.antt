@@ -9,9 +9,11 @@ abbrev pub invariant-loop-worker : goal.invariant-loop-worker
 invariant-loop-worker l = record {
   few : vec_len l.workers ≤ l.fn.allowed.count.number;
   queues : queues_of l.doors.items ≡ queues_of l.fn.doors.items;
-  workers : AreWorkers l.graph l.fn.allowed.count.number l.fn.allowed.steps l.fn.allowed.keeps (queues_of l.fn.doors.items) l.workers.items;
+  workers : AreWorkers l.graph l.fn.allowed.count.number l.fn.allowed.steps l.fn.allowed.keeps
+      (queues_of l.fn.doors.items) l.workers.items;
   parts : HaveParts (1024 - vec_len l.workers) l.doors.items;
-  elements : AreGathered l.graph l.fn.allowed.count.number l.fn.allowed.steps l.fn.allowed.keeps (vec_len l.workers) l.elements.items;
+  elements : AreGathered l.graph l.fn.allowed.count.number l.fn.allowed.steps l.fn.allowed.keeps (vec_len l.workers)
+      l.elements.items;
   len : vec_len l.workers + length l.elements.items ≡ l.fn.allowed.count.number;
   whole : (start : List Message) → IsWhole start l.fn.doors.items [] []
       → IsWhole start l.doors.items (states_of l.elements.items) l.left.messages;

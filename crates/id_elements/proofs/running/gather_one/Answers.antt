@@ -10,10 +10,13 @@ pub returns-clause-whole : goal.returns-clause-whole
 returns-clause-whole c start whole =
     let p = c.into_parts-theirs in
     rw c.in_ok-insert.ensures.items
-    (whole_parts start c.args.doors.now.items c.absorb_all.new.doors.items (states_of c.args.elements.now.items) c.args.left.now.messages c.keep_all.new.left.messages
-    c.args.worker p.result.doors.items p.result.element p.result.own.messages p.result.came.messages p.result.back.messages p.result.stray.messages
+    (whole_parts start c.args.doors.now.items c.absorb_all.new.doors.items (states_of c.args.elements.now.items)
+    c.args.left.now.messages c.keep_all.new.left.messages
+    c.args.worker p.result.doors.items p.result.element p.result.own.messages p.result.came.messages
+    p.result.back.messages p.result.stray.messages
     p.result.letters.items
-    p.ensures.doors p.ensures.element p.ensures.own p.ensures.came p.ensures.back p.ensures.stray p.ensures.letters c.absorb_all.ensures p.ensures.kept
+    p.ensures.doors p.ensures.element p.ensures.own p.ensures.came p.ensures.back p.ensures.stray p.ensures.letters
+    c.absorb_all.ensures p.ensures.kept
     (λ f.
     (
     let a = c.in_ok-keep_rest.ensures f in

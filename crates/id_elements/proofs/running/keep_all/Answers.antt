@@ -9,5 +9,6 @@ pub loop-letter-preserved : goal.loop-letter-preserved
 loop-letter-preserved c = λ f.
     let a = c.in_ok-keep_rest.ensures f in
     let b = c.loop-letter.invariant f in
-    let d : weight_in f c.loop-letter.letters.items ≡ weight_in f (c.pop.new.self.items ++ c.in-Some.letter ∷ []) = ap (weight_in f) c.in-Some.ensures.items in
+    let d : weight_in f c.loop-letter.letters.items ≡ weight_in f (c.pop.new.self.items ++ c.in-Some.letter ∷ []) =
+    ap (weight_in f) c.in-Some.ensures.items in
     omega (arith, a, b, d, sum_by_push (λ (q : QueueView). sum_by f q.messages) c.pop.new.self.items c.in-Some.letter)

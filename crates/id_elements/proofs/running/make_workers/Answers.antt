@@ -17,8 +17,10 @@ loop-number-preserved c =
       queues = cut.queues ∙ i.queues;
       long = a ∙ (same_length c.split_all.new.doors.items c.args.doors.now.items (cut.queues ∙ i.queues) ∙ sym b);
       workers = rw c.in_ok-push.ensures.items
-          (workers_more c.args.graph.now c.args.count.number 0 c.args.keeps (queues_of c.args.doors.now.items) c.loop-number.workers.items c.in_ok-worker.worker i.workers
-          (subst (IsWorker c.args.graph.now c.args.count.number 0 c.args.keeps (queues_of c.args.doors.now.items) (length c.loop-number.workers.items)) (sym c.in_ok-worker.ensures)
+          (workers_more c.args.graph.now c.args.count.number 0 c.args.keeps (queues_of c.args.doors.now.items)
+          c.loop-number.workers.items c.in_ok-worker.worker i.workers
+          (subst (IsWorker c.args.graph.now c.args.count.number 0 c.args.keeps (queues_of c.args.doors.now.items)
+          (length c.loop-number.workers.items)) (sym c.in_ok-worker.ensures)
           (record {
             queues = theirs;
             element = record {

@@ -38,7 +38,12 @@ returns-in-Err g c =
     let told = c.in_ok-accept_text.ensures in
     record {
       shown = tt;
-      cut = λ _. record { status = 0; error = c.in-Err.field-0; shown = HasShown-accepted _ _ _ _ told.program c.in-Err.ensures };
+      cut = λ _. record {
+        status = 0;
+        error = c.in-Err.field-0;
+        shown =
+            HasShown-accepted _ _ _ _ told.program c.in-Err.ensures;
+      };
       silent = λ h. absurd (h refl);
       taken = tt;
       refused = by_write;

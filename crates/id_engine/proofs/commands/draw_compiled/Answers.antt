@@ -8,7 +8,9 @@ use Rattle.id_engine.proofs.commands.draw_compiled.Goals as goal
 pub draw-requires-clause-places : goal.draw-requires-clause-places
 draw-requires-clause-places c =
     let p = c.args.compiled.now in
-    rw c.text.ensures.value (subst (λ (g : Parts). All (λ i. i.place ≤ length p.text) g.instrs) (sym (c.graph.ensures.value ∙ c.valid.ensures.value))
+    rw c.text.ensures.value
+    (subst (λ (g : Parts). All (λ i. i.place ≤ length p.text) g.instrs)
+    (sym (c.graph.ensures.value ∙ c.valid.ensures.value))
     (instrs_within c.text.ensures.within p.graph (schemas_of c.valid.ensures.kept)))
 
 pub returns-in-Ok-clause-picture : goal.returns-in-Ok-clause-picture

@@ -24,7 +24,8 @@ returns-in_err-picture g c =
 
 pub returns-in-Ok : goal.returns-in-Ok
 returns-in-Ok g c = record {
-  shown = HasShown-drawn _ _ _ _ _ c.in_ok-picture.ensures.picture (subst (λ (b : List ℕ). Prints (g.W.Sink.told c.args.out.now) (g.W.Sink.told
+  shown = HasShown-drawn _ _ _ _ _ c.in_ok-picture.ensures.picture
+      (subst (λ (b : List ℕ). Prints (g.W.Sink.told c.args.out.now) (g.W.Sink.told
       c.put.new.sink) b _) (c.as_bytes.ensures.value ∙ c.as_str.ensures.value) c.in-Ok.ensures);
   cut = λ e. absurd cc;
   silent = tt;
@@ -40,7 +41,8 @@ returns g c = record {
     status = 0;
     error = c.in-Err.field-0;
     shown = HasShown-drawn _ _ _ _ _ c.in_ok-picture.ensures.picture (subst (λ (b : List ℕ).
-        Prints (g.W.Sink.told c.args.out.now) (g.W.Sink.told c.put.new.sink) b (Err c.in-Err.field-0)) (c.as_bytes.ensures.value ∙
+        Prints (g.W.Sink.told c.args.out.now) (g.W.Sink.told c.put.new.sink) b (Err c.in-Err.field-0))
+        (c.as_bytes.ensures.value ∙
         c.as_str.ensures.value) c.in-Err.ensures);
   };
   silent = λ h. absurd (h refl);

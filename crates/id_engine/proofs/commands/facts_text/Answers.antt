@@ -37,7 +37,8 @@ returns-in-Err g c = record {
   cut = λ _. record {
     status = 0;
     error = c.in-Err.field-0;
-    shown = HasShown-facts _ _ _ _ _ _ _ c.in_ok-found.ensures.facts (rw c.in_ok-found.ensures.text at c.in-Err.ensures);
+    shown = HasShown-facts _ _ _ _ _ _ _ c.in_ok-found.ensures.facts
+        (rw c.in_ok-found.ensures.text at c.in-Err.ensures);
   };
   silent = λ h. absurd (h refl);
   taken = tt;

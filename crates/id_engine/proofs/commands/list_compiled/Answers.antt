@@ -18,5 +18,7 @@ returns-in-Ok-clause-listing c = record {
   is_program = c.text-text.ensures.program;
   graph = c.args.compiled.graph;
   own = c.into_valid-valid.ensures.kept;
-  listing_is = (rw c.text-text.ensures.value at c.in-Ok.ensures) ∙ ap (listing c.args.compiled.text) (c.graph.ensures.value ∙ c.into_valid-valid.ensures.value);
+  listing_is =
+      (rw c.text-text.ensures.value at c.in-Ok.ensures)
+      ∙ ap (listing c.args.compiled.text) (c.graph.ensures.value ∙ c.into_valid-valid.ensures.value);
 }

@@ -24,7 +24,8 @@ returns-in-Ok c = record {
         c.in-Ok.ensures.small;
   } in
       on_ok c.list_compiled.result (HasProgram c.args.text.now) has);
-  refused = if_err _ _ _ (λ e h. subst (IsRefusedText c.args.text.now) (sym h) by_memory) c.list_compiled.ensures.memory;
+  refused =
+      if_err _ _ _ (λ e h. subst (IsRefusedText c.args.text.now) (sym h) by_memory) c.list_compiled.ensures.memory;
   inside = if_err _ _ _ (λ e h. let l = late_memory c.args.text.now e h in l.0) c.list_compiled.ensures.memory;
   not_write = if_err _ _ _ (λ e h. let l = late_memory c.args.text.now e h in l.1) c.list_compiled.ensures.memory;
 }

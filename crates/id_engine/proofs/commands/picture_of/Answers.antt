@@ -18,7 +18,9 @@ returns-in-Err c = record {
 
 pub returns-in-Ok : goal.returns-in-Ok
 returns-in-Ok c = record {
-  picture = if_ok c.draw_compiled.result (λ s. string_bytes s ≡ dot_text c.in-Ok.compiled.text c.in-Ok.compiled.graph) (λ s. IsPictureOf c.args.text.now (string_bytes s))
+  picture =
+      if_ok c.draw_compiled.result (λ s. string_bytes s ≡ dot_text c.in-Ok.compiled.text c.in-Ok.compiled.graph)
+      (λ s. IsPictureOf c.args.text.now (string_bytes s))
       (λ s h. record {
         program = c.in-Ok.compiled.checked;
         is_program = c.in-Ok.ensures.program;
@@ -33,7 +35,8 @@ returns-in-Ok c = record {
         c.in-Ok.ensures.small;
   } in
       on_ok c.draw_compiled.result (HasProgram c.args.text.now) has);
-  refused = if_err _ _ _ (λ e h. subst (IsRefusedText c.args.text.now) (sym h) by_memory) c.draw_compiled.ensures.memory;
+  refused =
+      if_err _ _ _ (λ e h. subst (IsRefusedText c.args.text.now) (sym h) by_memory) c.draw_compiled.ensures.memory;
   inside = if_err _ _ _ (λ e h. let l = late_memory c.args.text.now e h in l.0) c.draw_compiled.ensures.memory;
   not_write = if_err _ _ _ (λ e h. let l = late_memory c.args.text.now e h in l.1) c.draw_compiled.ensures.memory;
 }

@@ -2,7 +2,8 @@ use Rattle.std.proofs.Common.{◌≡◌, map, refl}
 use Rattle.id_compile.specs.declared.error.EngineError.TheVariants.{Write}
 use Rattle.id_compile.specs.Refusals.IsRefusedRun.{by_source}
 use Rattle.id_engine.specs.Listening.{Listens}
-use Rattle.id_engine.proofs.JudgedLemmas.{Listens-cut, Listens-inside, Listens-refused, Listens-shown, Listens-silent, Listens-taken}
+use Rattle.id_engine.proofs.JudgedLemmas.{Listens-cut, Listens-inside, Listens-refused, Listens-shown, Listens-silent}
+use Rattle.id_engine.proofs.JudgedLemmas.{Listens-taken}
 use Rattle.id_engine.proofs.judge.judge_log.Goals as goal
 
 pub returns-in-Err : goal.returns-in-Err
@@ -23,7 +24,8 @@ returns-in-Ok g c =
     let P = p.compiled.checked in
     let vs = p.inputs.values in
     let e = c.in-Ok.ensures in
-    let so : Listens P vs text (g.L.Log.ahead c.args.log.now) c.args.count c.args.names (g.W.Sink.told c.args.out.now) (g.W.Sink.told c.judge_prepared.new.out)
+    let so : Listens P vs text (g.L.Log.ahead c.args.log.now) c.args.count c.args.names (g.W.Sink.told c.args.out.now)
+    (g.W.Sink.told c.judge_prepared.new.out)
     c.judge_prepared.result = rw e.text at c.judge_prepared.ensures in
     record {
       shown = Listens-shown text ws P e.program e.small vs e.inputs _ c.args.count c.args.names _ _ _ so;

@@ -22,7 +22,8 @@ pub returns-in-Err-Refused : goal.returns-in-Err-Refused
 returns-in-Err-Refused g c = record {
   shown = tt;
   cut = λ e. (let is : c.in-Err-Refused.error ≡ Write = cc in
-      hears_all c.args.trace.now _ (c.in-Err-Refused.ensures.cut (rw c.in-Err-Refused.field-0-is (ap (λ x. Err (Refused x)) is))));
+      hears_all c.args.trace.now _
+      (c.in-Err-Refused.ensures.cut (rw c.in-Err-Refused.field-0-is (ap (λ x. Err (Refused x)) is))));
   silent = λ no. rw c.in-Err-Refused.field-0-is at c.in-Err-Refused.ensures.silent (λ e. no cc);
   taken = tt;
   refused = rw c.in-Err-Refused.field-0-is at c.in-Err-Refused.ensures.refused;

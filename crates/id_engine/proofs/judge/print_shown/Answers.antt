@@ -9,7 +9,8 @@ run_report-requires g c = λ asked is. keeps_names false c.args.names asked (sym
 
 pub returns-in-Ok : goal.returns-in-Ok
 returns-in-Ok g c = reported _ c.in-Ok.ensures
-    (IsOutput-from c.args.prepared.now.compiled.text c.args.names c.in-Ok.report _ _ c.args.events c.status_of.result c.write_legal-written.result
+    (IsOutput-from c.args.prepared.now.compiled.text c.args.names c.in-Ok.report _ _ c.args.events c.status_of.result
+    c.write_legal-written.result
     c.printed.result c.status_of.ensures c.write_legal-written.ensures c.printed.ensures)
 
 pub returns-in-Err : goal.returns-in-Err

@@ -4,11 +4,13 @@ use Rattle.id_sink.proofs.SinkLemmas.{Prints-stop, Prints-then}
 use Rattle.id_engine.proofs.judge.put_legal.Goals as goal
 
 pub returns-in_err-put : goal.returns-in_err-put
-returns-in_err-put g c = Prints-stop _ _ _ (decimal c.args.events ++ codes "\n") _ _ c.in_err-put.ensures c.from_residual.ensures.0
+returns-in_err-put g c =
+    Prints-stop _ _ _ (decimal c.args.events ++ codes "\n") _ _ c.in_err-put.ensures c.from_residual.ensures.0
 
 pub returns-in_err-put_long : goal.returns-in_err-put_long
 returns-in_err-put_long g c = Prints-then _ _ _ _ _ _ _ c.in_ok-put.ensures
     (Prints-stop _ _ _ (codes "\n") _ _ c.in_err-put_long.ensures c.from_residual-in_err-put_long.ensures.0)
 
 pub returns : goal.returns
-returns g c = Prints-then _ _ _ _ _ _ _ c.in_ok-put.ensures (Prints-then _ _ _ _ _ _ _ c.in_ok-put_long.ensures c.put-2.ensures)
+returns g c =
+    Prints-then _ _ _ _ _ _ _ c.in_ok-put.ensures (Prints-then _ _ _ _ _ _ _ c.in_ok-put_long.ensures c.put-2.ensures)

@@ -8,5 +8,7 @@ returns-in-Ok g c = λ a opened lost.
 
 pub returns-in-Err : goal.returns-in-Err
 returns-in-Err g c = λ a opened lost.
-    DrivesBy-broken c.args.text.now a c.args.request.now _ _ _ _ c.in-Err.fault c.log_fault.result c.of_source_fault.result c.refuse_plainly.result
-    (rw c.in-Err.is at lost) c.log_fault.ensures c.of_source_fault.ensures c.refuse_plainly.ensures.status refl c.refuse_plainly.ensures.printed
+    DrivesBy-broken c.args.text.now a c.args.request.now _ _ _ _ c.in-Err.fault c.log_fault.result
+    c.of_source_fault.result c.refuse_plainly.result
+    (rw c.in-Err.is at lost) c.log_fault.ensures c.of_source_fault.ensures c.refuse_plainly.ensures.status refl
+    c.refuse_plainly.ensures.printed

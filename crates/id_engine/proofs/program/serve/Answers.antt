@@ -8,5 +8,6 @@ returns-in-Ok g c = done c.in-Ok.ensures.shown c.in-Ok.ensures.taken c.in-Ok.ens
 
 pub returns-in-Err : goal.returns-in-Err
 returns-in-Err g c =
-    Serves-error _ _ _ _ _ _ _ c.in-Err.error _ (λ e. c.in-Err.ensures.cut (ap (λ x. Err x) e)) (λ e. c.in-Err.ensures.front (ap (λ x. Err x) e))
+    Serves-error _ _ _ _ _ _ _ c.in-Err.error _ (λ e. c.in-Err.ensures.cut (ap (λ x. Err x) e))
+    (λ e. c.in-Err.ensures.front (ap (λ x. Err x) e))
     c.in-Err.ensures.silent c.in-Err.ensures.refused c.tell.ensures

@@ -16,6 +16,8 @@ returns-in-Ok g c =
 pub returns-in-Err : goal.returns-in-Err
 returns-in-Err g c =
     let told = g.S.Source.told c.args.source.now in
-    Drives-unread (told (file_of c.args.request.now)) _ c.args.request.now _ _ _ c.in-Err.fault c.of_source_fault.result c.refuse_plainly.result
-    (subst (λ (n : List ℕ). IsUnread (told n) c.in-Err.fault) c.file_of.ensures c.in-Err.ensures.text) c.of_source_fault.ensures
+    Drives-unread (told (file_of c.args.request.now)) _ c.args.request.now _ _ _ c.in-Err.fault c.of_source_fault.result
+    c.refuse_plainly.result
+    (subst (λ (n : List ℕ). IsUnread (told n) c.in-Err.fault) c.file_of.ensures c.in-Err.ensures.text)
+    c.of_source_fault.ensures
     c.refuse_plainly.ensures.status c.refuse_plainly.ensures.printed

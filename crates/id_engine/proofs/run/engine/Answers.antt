@@ -2,7 +2,8 @@ use Rattle.std.proofs.Common.{◌≡◌, map, refl}
 use Rattle.id_compile.specs.declared.error.EngineError.TheVariants.{Write}
 use Rattle.id_compile.specs.Refusals.IsRefusedRun.{by_source}
 use Rattle.id_engine.specs.Reports.{RunsSo}
-use Rattle.id_engine.proofs.ShownLemmas.{RunsSo-cut, RunsSo-front, RunsSo-inside, RunsSo-ran, RunsSo-refused, RunsSo-shown, RunsSo-silent, RunsSo-taken}
+use Rattle.id_engine.proofs.ShownLemmas.{RunsSo-cut, RunsSo-front, RunsSo-inside, RunsSo-ran, RunsSo-refused}
+use Rattle.id_engine.proofs.ShownLemmas.{RunsSo-shown, RunsSo-silent, RunsSo-taken}
 use Rattle.id_engine.proofs.run.engine.Goals as goal
 
 pub returns-in-Err : goal.returns-in-Err
@@ -28,7 +29,8 @@ returns-in-Ok g c =
     let P = p.compiled.checked in
     let vs = p.inputs.values in
     let e = c.in-Ok.ensures in
-    let so : RunsSo P vs text s.elements t s.steps s.order b (g.W.Sink.told c.args.out.now) (g.W.Sink.told c.run_prepared.new.out) c.run_prepared.result =
+    let so : RunsSo P vs text s.elements t s.steps s.order b (g.W.Sink.told c.args.out.now)
+    (g.W.Sink.told c.run_prepared.new.out) c.run_prepared.result =
     rw e.text at c.run_prepared.ensures in
     record {
       shown = RunsSo-shown text ws P e.program e.small vs e.inputs s.elements t s.steps s.order b _ _ _ so;

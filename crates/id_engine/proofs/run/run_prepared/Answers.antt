@@ -11,6 +11,8 @@ returns-in-Ok g c =
     let p = c.args.prepared.now in
     let s = c.args.settings in
     let e = c.in-Ok.ensures in
-    RunsSo-machine p.compiled.checked p.inputs.values p.compiled.text s.elements c.args.asked.trace s.steps s.order c.args.asked.names
-    p.compiled.graph c.in-Ok.run' c.sound.ensures c.complete.ensures p.own e.own e.allowed e.run e.moves e.positions _ _ c.print_ended.result
+    RunsSo-machine p.compiled.checked p.inputs.values p.compiled.text s.elements c.args.asked.trace s.steps s.order
+    c.args.asked.names
+    p.compiled.graph c.in-Ok.run' c.sound.ensures c.complete.ensures p.own e.own e.allowed e.run e.moves e.positions _ _
+    c.print_ended.result
     c.print_ended.ensures

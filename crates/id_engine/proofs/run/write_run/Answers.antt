@@ -6,7 +6,8 @@ use Rattle.id_engine.proofs.run.write_run.Goals as goal
 
 pub returns-in_err-write_trace : goal.returns-in_err-write_trace
 returns-in_err-write_trace g c =
-    Prints-stop _ _ _ (report_text c.args.prepared.now.compiled.text c.args.names c.args.report.now) _ _ c.in_err-write_trace.ensures
+    Prints-stop _ _ _ (report_text c.args.prepared.now.compiled.text c.args.names c.args.report.now) _ _
+    c.in_err-write_trace.ensures
     c.from_residual.ensures.0
 
 pub returns : goal.returns

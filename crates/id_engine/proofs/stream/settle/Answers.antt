@@ -10,6 +10,10 @@ returns-in-Ok g c = record {
 
 pub returns-in-Err : goal.returns-in-Err
 returns-in-Err g c = record {
-  settled = sent (Err c.in-Err.field-0) (λ e. c.if-status.false (e ∙ sym c.status.ensures)) c.in-Err.ensures (search rules, search rules);
+  settled =
+      sent (Err c.in-Err.field-0) (λ e. c.if-status.false (e ∙ sym c.status.ensures)) c.in-Err.ensures (
+        search rules,
+        search rules,
+      );
   bytes = c.in-Err.ensures.contents;
 }

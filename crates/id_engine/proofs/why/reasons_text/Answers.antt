@@ -26,8 +26,15 @@ returns-in_err-reasoned g c =
 pub returns-in-Ok : goal.returns-in-Ok
 returns-in-Ok g c = record {
   shown = (let q = c.in_ok-reasoned.reasoned in
-      HasShown-reasons c.args.text.now _ c.args.round q.prepared.compiled.checked q.reasons _ _ _ c.in_ok-reasoned.ensures.reasons
-      (Prints-same (ap (λ (t : List ℕ). reasons_text (record { text = t; checked = q.prepared.compiled.checked; facts = q.reasons.paths }) c.args.round q.reasons)
+      HasShown-reasons c.args.text.now _ c.args.round q.prepared.compiled.checked q.reasons _ _ _
+      c.in_ok-reasoned.ensures.reasons
+      (Prints-same
+      (ap (λ (t : List ℕ). reasons_text (record {
+        text = t;
+        checked = q.prepared.compiled.checked;
+        facts =
+            q.reasons.paths;
+      }) c.args.round q.reasons)
       c.in_ok-reasoned.ensures.text) c.in-Ok.ensures));
   cut = λ e. absurd cc;
   silent = tt;
@@ -43,8 +50,15 @@ returns-in-Err g c = record {
     status = 0;
     error = c.in-Err.field-0;
     shown = (let q = c.in_ok-reasoned.reasoned in
-        HasShown-reasons c.args.text.now _ c.args.round q.prepared.compiled.checked q.reasons _ _ _ c.in_ok-reasoned.ensures.reasons
-        (Prints-same (ap (λ (t : List ℕ). reasons_text (record { text = t; checked = q.prepared.compiled.checked; facts = q.reasons.paths }) c.args.round q.reasons)
+        HasShown-reasons c.args.text.now _ c.args.round q.prepared.compiled.checked q.reasons _ _ _
+        c.in_ok-reasoned.ensures.reasons
+        (Prints-same
+        (ap (λ (t : List ℕ). reasons_text (record {
+          text = t;
+          checked = q.prepared.compiled.checked;
+          facts =
+              q.reasons.paths;
+        }) c.args.round q.reasons)
         c.in_ok-reasoned.ensures.text) c.in-Err.ensures));
   };
   silent = λ h. absurd (h refl);

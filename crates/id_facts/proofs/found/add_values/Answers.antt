@@ -10,7 +10,8 @@ loop-value-init c = refl
 
 pub loop-value-preserved : goal.loop-value-preserved
 loop-value-preserved c =
-    gathered-more (haves c.args.path c.args.row) (λ v. Has c.args.path c.args.row v ∷ []) (λ _ _. refl) c.args.values.now c.loop-value.value-index _ _ _ _
+    gathered-more (haves c.args.path c.args.row) (λ v. Has c.args.path c.args.row v ∷ []) (λ _ _. refl)
+    c.args.values.now c.loop-value.value-index _ _ _ _
     c.loop-value-test.true c.in_ok-add_has.ensures c.loop-value.invariant
 
 pub returns-in_err-add_has : goal.returns-in_err-add_has
@@ -18,4 +19,5 @@ returns-in_err-add_has c = on_ok _ c.from_residual.result c.from_residual.ensure
 
 pub returns : goal.returns
 returns c =
-    gathered-all (haves c.args.path c.args.row) refl c.args.values.now c.loop-value.value-index _ _ c.loop-value-test.false c.loop-value.invariant
+    gathered-all (haves c.args.path c.args.row) refl c.args.values.now c.loop-value.value-index _ _
+    c.loop-value-test.false c.loop-value.invariant

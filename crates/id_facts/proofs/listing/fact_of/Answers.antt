@@ -12,7 +12,8 @@ pub returns-in_err-path_at-in-On : goal.returns-in_err-path_at-in-On
 returns-in_err-path_at-in-On c = if_err _ c.from_residual.result c.from_residual.ensures.0
 
 pub returns-in_err-name_at-in-Shape : goal.returns-in_err-name_at-in-Shape
-returns-in_err-name_at-in-Shape c = if_err _ c.from_residual-in_err-name_at-in-Shape.result c.from_residual-in_err-name_at-in-Shape.ensures.0
+returns-in_err-name_at-in-Shape c =
+    if_err _ c.from_residual-in_err-name_at-in-Shape.result c.from_residual-in_err-name_at-in-Shape.ensures.0
 
 pub returns-in_ok-path_at-in-On : goal.returns-in_ok-path_at-in-On
 returns-in_ok-path_at-in-On c = grind (arith, common_steps)

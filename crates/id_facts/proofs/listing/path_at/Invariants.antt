@@ -5,7 +5,8 @@ use Rattle.id_facts.proofs.listing.path_at.Given as goal
 
 abbrev pub invariant-loop-rest : goal.invariant-loop-rest
 invariant-loop-rest l =
-    steps_of l.checked l.facts (steps_in_all l.rest) l.rest ++ reverse l.steps.items ≡ steps_of l.checked l.facts (steps_in_all l.fn.trail) l.fn.trail
+    steps_of l.checked l.facts (steps_in_all l.rest) l.rest ++ reverse l.steps.items
+    ≡ steps_of l.checked l.facts (steps_in_all l.fn.trail) l.fn.trail
 
 abbrev pub decreases-loop-rest : goal.decreases-loop-rest
 decreases-loop-rest l = steps_in_all l.rest

@@ -19,4 +19,5 @@ returns c =
       search rules,
     ))) in
     let Q : List RowFact → Type 0 = λ xs. IsPermutation xs c.sort_unstable_by.new.self.items in
-    shown-sorted P fs c.sort_unstable_by.new.self.items (subst Q c.in_ok-all.ensures c.sort_unstable_by.ensures.permutation) up
+    shown-sorted P fs c.sort_unstable_by.new.self.items
+    (subst Q c.in_ok-all.ensures c.sort_unstable_by.ensures.permutation) up

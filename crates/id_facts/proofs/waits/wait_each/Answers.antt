@@ -16,5 +16,6 @@ loop-user-preserved c =
 
 pub returns : goal.returns
 returns c =
-    each-end c.args.checked.now (items c.args.cells.now) _ _ c.args.path c.args.row c.args.users.now c.loop-user.user-index
+    each-end c.args.checked.now (items c.args.cells.now) _ _ c.args.path c.args.row c.args.users.now
+    c.loop-user.user-index
     (let h = c.loop-user-test.false in omega arith) c.loop-user.invariant

@@ -14,7 +14,10 @@ returns-in-Some c =
     let o = c.out_of-outside.ensures ∙ ap (λ k. out_of es k c.args.path) d in
     let q = c.queue_of.ensures.queue ∙ ap (λ t. queue_of t c.in-Some.there) o in
     on_ok_weaker c.add.result
-    (λ g. waits-for P es _ _ c.args.path c.args.row c.args.user c.in-Some.there c.queue_of.result b q c.queue_of.ensures.within g) c.add.ensures
+    (λ g. waits-for P es _ _ c.args.path c.args.row c.args.user c.in-Some.there c.queue_of.result b q
+    c.queue_of.ensures.within g) c.add.ensures
 
 pub returns-in-None : goal.returns-in-None
-returns-in-None c = waits-nobody c.args.checked.now (items c.args.cells.now) _ c.args.path c.args.row c.args.user (sym c.awaited-binder.ensures ∙ c.in-None.is)
+returns-in-None c =
+    waits-nobody c.args.checked.now (items c.args.cells.now) _ c.args.path c.args.row c.args.user
+    (sym c.awaited-binder.ensures ∙ c.in-None.is)

@@ -21,7 +21,8 @@ flying c =
     (Among-from_at c.given.inside.message c.bench.inside.flight c.in-Some.position c.in-Some.ensures.some))
 
 -- and is for the element of this number
-number_is : (c : After-route-number) → c.route-number.result ≡ goal_of (length c.args.bench.now.elements) c.args.given.now
+number_is : (c : After-route-number)
+    → c.route-number.result ≡ goal_of (length c.args.bench.now.elements) c.args.given.now
 number_is c =
     c.route-number.ensures.exact
     ∙ ap (route_of c.given.inside.message.payload)
@@ -44,7 +45,8 @@ returns-in-Ok-clause-follows c = λ is.
     let b = c.args.bench.now in
     let d = c.in-Ok.ensures.delivers in
     let last = subst (λ (u : EventView). IsLast c.deliver.new.bench u.message d.event) c.given.view_is d.recorded in
-    given_follows b.graph (length b.elements) (world_in b) (world_in c.deliver.new.bench) c.args.given.now d.event d.follows c.difference.result
+    given_follows b.graph (length b.elements) (world_in b) (world_in c.deliver.new.bench) c.args.given.now d.event
+    d.follows c.difference.result
     (c.difference.ensures d.event last) (ok_same c.difference.result None is)
 
 pub returns-in-Ok-clause-cause : goal.returns-in-Ok-clause-cause
@@ -53,7 +55,8 @@ returns-in-Ok-clause-cause c =
     let b = c.args.bench.now in
     let d = c.in-Ok.ensures.delivers in
     let last = subst (λ (u : EventView). IsLast c.deliver.new.bench u.message d.event) c.given.view_is d.recorded in
-    difference_is b.graph (length b.elements) (world_in b) c.args.given.now d.event (d.of ∙ ap (λ (u : EventView). u.message) c.given.view_is)
+    difference_is b.graph (length b.elements) (world_in b) c.args.given.now d.event (d.of
+    ∙ ap (λ (u : EventView). u.message) c.given.view_is)
     (own a c.if-given-number.false) d.follows.can c.difference.result (c.difference.ensures d.event last)
 
 pub returns-in-Err-StampEnd-clause-cause : goal.returns-in-Err-StampEnd-clause-cause
@@ -63,4 +66,5 @@ returns-in-Err-StampEnd-clause-cause c =
     let ended : IsEnded b c.args.given.now.message =
     subst (λ (u : EventView). IsEnded b u.message) c.given.view_is
     (c.in-Err-StampEnd.ensures.end (ap (λ e. Err e) c.in-Err-StampEnd.field-0-is)) in
-    no_stamp b.graph (length b.elements) b.elements b.flight c.args.given.now ended.0 (flying a) (own a c.if-given-number.false) ended.1 ended.2
+    no_stamp b.graph (length b.elements) b.elements b.flight c.args.given.now ended.0 (flying a)
+    (own a c.if-given-number.false) ended.1 ended.2

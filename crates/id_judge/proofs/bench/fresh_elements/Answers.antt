@@ -17,8 +17,11 @@ loop-number-preserved c =
       rw (c.push_reserved.ensures.items, length_push items c.keeping.result, c.loop-number.invariant.0),
       omega arith,
       omega arith,
-      rw c.push_reserved.ensures.items (AreElements-push c.args.graph.now c.args.count items c.keeping.result c.loop-number.invariant.3 made),
-      rw c.push_reserved.ensures.items (All-push (λ e. e.keeps ≡ c.args.keeps) items c.keeping.result c.loop-number.invariant.4 (ap (λ v. v.keeps) c.keeping.ensures)),
+      rw c.push_reserved.ensures.items
+          (AreElements-push c.args.graph.now c.args.count items c.keeping.result c.loop-number.invariant.3 made),
+      rw c.push_reserved.ensures.items
+          (All-push (λ e. e.keeps ≡ c.args.keeps) items c.keeping.result c.loop-number.invariant.4
+          (ap (λ v. v.keeps) c.keeping.ensures)),
       rw (
         c.push_reserved.ensures.items,
         map_push (λ e. e.state) items c.keeping.result,

@@ -12,9 +12,11 @@ use Rattle.id_judge.proofs.events.judge_events.Goals as goal
 use Rattle.id_judge.proofs.events.judge_events.Goals.{After-follow}
 
 -- the next event of the list
-next_is : (c : After-follow) → slice_get c.args.events.now c.loop-position.position ≡ Some c.index-events-position.result
+next_is : (c : After-follow)
+    → slice_get c.args.events.now c.loop-position.position ≡ Some c.index-events-position.result
 next_is c =
-    slice_get_read c.args.events.now (length c.args.events.now) c.loop-position.position c.index-events-position.result refl
+    slice_get_read c.args.events.now (length c.args.events.now) c.loop-position.position c.index-events-position.result
+    refl
     c.loop-position-test.true c.index-events-position.is
 
 pub loop-position-init : goal.loop-position-init
@@ -30,9 +32,12 @@ returns-in-Some-clause-verdict c =
     let n = length b.elements in
     let v = c.index-events-position.result in
     let why : IsCause b.graph n (world_in b) v c.in-Some.cause =
-    subst (λ (o : Option Cause). IfSome o (IsCause b.graph n (world_in b) v)) c.in-Some.is c.in_ok-cause.ensures.cause in
-    first_is c.args.graph.now b.graph c.args.inputs.now.values c.args.count n c.args.events.now c.loop-position.position v (world_in b) c.in-Some.cause
-    c.loop-position.invariant.1 c.loop-position.invariant.2 (next_is (goal.at.returns-in-Some-clause-verdict c).After-follow)
+    subst (λ (o : Option Cause). IfSome o (IsCause b.graph n (world_in b) v)) c.in-Some.is
+    c.in_ok-cause.ensures.cause in
+    first_is c.args.graph.now b.graph c.args.inputs.now.values c.args.count n c.args.events.now c.loop-position.position
+    v (world_in b) c.in-Some.cause
+    c.loop-position.invariant.1 c.loop-position.invariant.2
+    (next_is (goal.at.returns-in-Some-clause-verdict c).After-follow)
     c.loop-position.invariant.4 why
 
 pub loop-position-preserved : goal.loop-position-preserved
@@ -45,8 +50,10 @@ loop-position-preserved c =
       h.graph (ap (λ o. Ok o) c.in_default.is) ∙ graph,
       h.count (ap (λ o. Ok o) c.in_default.is) ∙ many,
       h.keeps (ap (λ o. Ok o) c.in_default.is) ∙ c.loop-position.invariant.3,
-      next_lead c.args.graph.now b.graph c.args.inputs.now.values c.args.count (length b.elements) c.args.events.now c.loop-position.position
-          c.index-events-position.result (world_in b) (world_in c.follow.new.bench) graph many (next_is (goal.at.loop-position-preserved c).After-follow)
+      next_lead c.args.graph.now b.graph c.args.inputs.now.values c.args.count (length b.elements) c.args.events.now
+          c.loop-position.position
+          c.index-events-position.result (world_in b) (world_in c.follow.new.bench) graph many
+          (next_is (goal.at.loop-position-preserved c).After-follow)
           c.loop-position.invariant.4 (h.follows (ap (λ o. Ok o) c.in_default.is)),
     )
 
@@ -56,7 +63,12 @@ returns-clause-verdict c =
     let b = c.loop-position.bench in
     let es = c.args.events.now in
     let from = start g c.args.inputs.now.values c.args.count in
-    let end : c.loop-position.position ≡ length es = omega (arith, c.loop-position-test.false, c.loop-position.auto.position-end) in
-    let legal = legal_is g b.graph c.args.inputs.now.values c.args.count (length b.elements) es (world_in b) b.keeps c.in_ok-machine.machine
-    c.loop-position.invariant.1 c.loop-position.invariant.2 c.loop-position.invariant.3 (subst (λ i. LeadTo g c.args.count from (take i es) (world_in b)) end c.loop-position.invariant.4) c.in_ok-machine.ensures in
+    let end : c.loop-position.position ≡ length es =
+    omega (arith, c.loop-position-test.false, c.loop-position.auto.position-end) in
+    let legal =
+    legal_is g b.graph c.args.inputs.now.values c.args.count (length b.elements) es (world_in b) b.keeps
+    c.in_ok-machine.machine
+    c.loop-position.invariant.1 c.loop-position.invariant.2 c.loop-position.invariant.3
+    (subst (λ i. LeadTo g c.args.count from (take i es) (world_in b)) end c.loop-position.invariant.4)
+    c.in_ok-machine.ensures in
     (legal.0, legal.1, legal.2, refl, legal.3)

@@ -5,10 +5,12 @@ use Rattle.id_judge.proofs.GivenLemmas.{none_true, not_false}
 use Rattle.id_judge.proofs.given.is_given.Goals as goal
 
 pub returns-then-event-given : goal.returns-then-event-given
-returns-then-event-given c = none_true (λ same. c.if-event-given.true (ap (λ (v : EventView). v.element) (same ∙ sym c.given.view_is)))
+returns-then-event-given c =
+    none_true (λ same. c.if-event-given.true (ap (λ (v : EventView). v.element) (same ∙ sym c.given.view_is)))
 
 pub returns-then-event-given-2 : goal.returns-then-event-given-2
-returns-then-event-given-2 c = none_true (λ same. c.if-event-given-2.true (ap (λ (v : EventView). v.stamp) (same ∙ sym c.given.view_is)))
+returns-then-event-given-2 c =
+    none_true (λ same. c.if-event-given-2.true (ap (λ (v : EventView). v.stamp) (same ∙ sym c.given.view_is)))
 
 pub returns-then-not-same_message : goal.returns-then-not-same_message
 returns-then-not-same_message c = none_true
@@ -40,5 +42,6 @@ returns c = (
         outputs = outputs i;
         step = step i;
       }) ∙ c.given.view_is),
-  λ same. c.are_sent.ensures.1 (ap (λ (v : EventView). v.outputs) (same ∙ sym c.given.view_is) ∙ sym c.as_slice.ensures.value),
+  λ same. c.are_sent.ensures.1 (ap (λ (v : EventView). v.outputs) (same ∙ sym c.given.view_is)
+      ∙ sym c.as_slice.ensures.value),
 )

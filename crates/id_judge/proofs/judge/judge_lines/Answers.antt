@@ -15,7 +15,8 @@ returns-in-None-clause-verdict c =
     let new = c.read_lines.new.judge in
     let reads = c.in_ok-read_lines.ensures.reads (ap (λ o. Ok o) c.in-None.is) in
     let r = trace_read c.in_ok-judge.judge new g vs c.args.count c.args.keeps c.args.text.now h.judges h.read reads in
-    subst (λ k. IsLineVerdict g vs c.args.count c.args.keeps c.args.text.now (Legal c.in_ok-machine-in-None.machine k)) (sym c.lines-lines.ensures)
+    subst (λ k. IsLineVerdict g vs c.args.count c.args.keeps c.args.text.now (Legal c.in_ok-machine-in-None.machine k))
+    (sym c.lines-lines.ensures)
     (c.in_ok-machine-in-None.ensures g vs c.args.count c.args.keeps c.args.text.now r.0 r.1)
 
 pub returns-clause-verdict : goal.returns-clause-verdict
@@ -26,6 +27,7 @@ returns-clause-verdict c =
     let j = c.in_ok-judge.judge in
     let text = c.args.text.now in
     let k = c.read_lines.new.judge.lines in
-    let why : RefusesAt j text k c.in-Some.cause = subst (λ o. IfSome o (RefusesAt j text k)) c.in-Some.is c.in_ok-read_lines.ensures.refuses in
+    let why : RefusesAt j text k c.in-Some.cause =
+    subst (λ o. IfSome o (RefusesAt j text k)) c.in-Some.is c.in_ok-read_lines.ensures.refuses in
     subst (λ n. IsFirstLine g vs c.args.count text n c.in-Some.cause) (sym c.lines.ensures)
     (trace_refused j g vs c.args.count c.args.keeps text k c.in-Some.cause h.judges h.read why)

@@ -6,7 +6,9 @@ use Rattle.id_core.specs.Steps.{State, next_stamp}
 use Rattle.id_judge.specs.Benches.{BenchView, number_for, world_in}
 use Rattle.id_judge.specs.Lines.{Advances, AreStamps, BeginsAt, Compares, IsFound, IsLineCause, IsOther, behind}
 use Rattle.id_judge.proofs.GivenLemmas.{not_false}
-use Rattle.id_judge.proofs.ReadLemmas.{advances, element_is, if_err_more, if_ok_all, if_ok_more, left_at, left_is, no_stamp_left, other_element, other_line, own_from, own_to, stamp_at, stamps_after}
+use Rattle.id_judge.proofs.ReadLemmas.{advances, element_is, if_err_more, if_ok_all, if_ok_more, left_at, left_is}
+use Rattle.id_judge.proofs.ReadLemmas.{no_stamp_left, other_element, other_line, own_from, own_to, stamp_at}
+use Rattle.id_judge.proofs.ReadLemmas.{stamps_after}
 use Rattle.id_judge.proofs.lines.follow_line.Goals as goal
 use Rattle.id_judge.proofs.lines.follow_line.Goals.{In-Some, After-begins_number}
 
@@ -14,12 +16,17 @@ use Rattle.id_judge.proofs.lines.follow_line.Goals.{In-Some, After-begins_number
 here : (c : In-Some) → c.behind-body.result.now ≡ behind (behind c.args.text.now)
 here c = c.behind-body.ensures ∙ ap behind c.behind-second.ensures
 
-found : (c : In-Some) → IsFound c.args.bench.now.flight c.behind-body.result.now c.in-Some.said.position c.in-Some.said.message c.in-Some.said.past.now
+found : (c : In-Some)
+    → IsFound c.args.bench.now.flight c.behind-body.result.now c.in-Some.said.position c.in-Some.said.message
+    c.in-Some.said.past.now
 found c =
     let body = c.behind-body.result.now in
-    let there : IsFound c.bench.inside.flight body c.in-Some.said.position c.in-Some.said.message c.in-Some.said.past.now =
-    subst (λ o. IfSome o (λ s. IsFound c.bench.inside.flight body s.position s.message s.past.now)) c.in-Some.is c.in_ok-said.ensures.some in
-    subst (λ (b : BenchView). IsFound b.flight body c.in-Some.said.position c.in-Some.said.message c.in-Some.said.past.now) c.bench.view_is there
+    let there : IsFound c.bench.inside.flight body c.in-Some.said.position c.in-Some.said.message
+    c.in-Some.said.past.now =
+    subst (λ o. IfSome o (λ s. IsFound c.bench.inside.flight body s.position s.message s.past.now)) c.in-Some.is
+    c.in_ok-said.ensures.some in
+    subst (λ (b : BenchView). IsFound b.flight body c.in-Some.said.position c.in-Some.said.message
+    c.in-Some.said.past.now) c.bench.view_is there
 
 -- the number that is looked for is that of the message's element
 route_is : (c : After-begins_number) → c.route-number.result ≡ number_for c.args.bench.now c.in-Some.said.message
@@ -34,14 +41,19 @@ number_is c = c.from.ensures ∙ route_is c
 pub returns-then-not-begins_number-clause-cause : goal.returns-then-not-begins_number-clause-cause
 returns-then-not-begins_number-clause-cause c =
     let at = goal.at.returns-then-not-begins_number-clause-cause c in
-    other_element c.args.bench.now c.args.text.now c.behind-body.result.now c.in-Some.said.position c.in-Some.said.message c.in-Some.said.past.now
+    other_element c.args.bench.now c.args.text.now c.behind-body.result.now c.in-Some.said.position
+    c.in-Some.said.message c.in-Some.said.past.now
     (here at.In-Some) (found at.In-Some)
     (λ own. not_false c.begins_number.result c.if-not-begins_number.true
-    (c.begins_number.ensures.1 (own_to c.args.text.now c.behind-second.result.now _ c.from.result c.behind-second.ensures (number_is at.After-begins_number) own)))
+    (c.begins_number.ensures.1
+    (own_to c.args.text.now c.behind-second.result.now _ c.from.result c.behind-second.ensures
+    (number_is at.After-begins_number) own)))
 
-own : (c : After-begins_number) → c.begins_number.result ≡ true → BeginsAt (behind c.args.text.now) (number_for c.args.bench.now c.in-Some.said.message)
+own : (c : After-begins_number) → c.begins_number.result ≡ true
+    → BeginsAt (behind c.args.text.now) (number_for c.args.bench.now c.in-Some.said.message)
 own c so =
-    own_from c.args.text.now c.behind-second.result.now (number_for c.args.bench.now c.in-Some.said.message) c.from.result c.behind-second.ensures (number_is c)
+    own_from c.args.text.now c.behind-second.result.now (number_for c.args.bench.now c.in-Some.said.message)
+    c.from.result c.behind-second.ensures (number_is c)
     (c.begins_number.ensures.0 so)
 
 -- its last stamp
@@ -50,7 +62,8 @@ last_at : (c : After-begins_number) (s : State)
     → slice_get c.args.stamps.now.items c.route-number.result ≡ Some s.stamp
 last_at c s element =
     ap (slice_get c.args.stamps.now.items) (route_is c)
-    ∙ stamp_at c.args.stamps.now.items (world_in c.args.bench.now) (number_for c.args.bench.now c.in-Some.said.message) s c.requires.stamps element
+    ∙ stamp_at c.args.stamps.now.items (world_in c.args.bench.now) (number_for c.args.bench.now c.in-Some.said.message)
+    s c.requires.stamps element
 
 pub advance-stamp-requires-clause-left : goal.advance-stamp-requires-clause-left
 advance-stamp-requires-clause-left c =
@@ -65,7 +78,8 @@ advance-stamp-requires-clause-left c =
     let d = c.in-Ok.ensures.delivers in
     let e = element_is b text body k m past (here at.In-Some) (found at.In-Some) o c.in-Ok.step c.deliver.new.bench d in
     let l = left_is b text body k m past (here at.In-Some) (found at.In-Some) o c.in-Ok.step c.deliver.new.bench d in
-    left_at c.args.stamps.now.items (world_in b) (number_for b m) c.route-number.result d.follows.can.state m c.requires.stamps e l
+    left_at c.args.stamps.now.items (world_in b) (number_for b m) c.route-number.result d.follows.can.state m
+    c.requires.stamps e l
     (route_is at.After-begins_number)
 
 pub returns-in-Ok-clause-follows : goal.returns-in-Ok-clause-follows
@@ -84,9 +98,11 @@ returns-in-Ok-clause-follows c =
     let e = element_is b text body k m past (here at.In-Some) (found at.In-Some) o c.in-Ok.step new d in
     let next : stamp ≡ next_stamp d.follows.can.state m =
     c.advance-stamp.ensures.next d.follows.can.state.stamp (last_at at.After-begins_number d.follows.can.state e) in
-    if_ok_more (λ (tail : Bor (List ℕ)). Compares text past stamp c.in-Ok.step tail.now) (λ tail. Advances b text tail.now new) c.compare.result
+    if_ok_more (λ (tail : Bor (List ℕ)). Compares text past stamp c.in-Ok.step tail.now)
+    (λ tail. Advances b text tail.now new) c.compare.result
     (λ tail same.
-    advances b text body k m past (here at.In-Some) (found at.In-Some) o c.in-Ok.step new d tail.now c.in-Ok.ensures.bench stamp next same)
+    advances b text body k m past (here at.In-Some) (found at.In-Some) o c.in-Ok.step new d tail.now
+    c.in-Ok.ensures.bench stamp next same)
     c.compare.ensures.same
 
 pub returns-in-Ok-clause-stamps : goal.returns-in-Ok-clause-stamps
@@ -99,13 +115,15 @@ returns-in-Ok-clause-stamps c =
     let new = c.deliver.new.bench in
     let stamp = c.advance-stamp.result in
     let xs = c.args.stamps.now.items in
-    let e = element_is b c.args.text.now c.behind-body.result.now c.in-Some.said.position m c.in-Some.said.past.now (here at.In-Some) (found at.In-Some) o
+    let e = element_is b c.args.text.now c.behind-body.result.now c.in-Some.said.position m c.in-Some.said.past.now
+    (here at.In-Some) (found at.In-Some) o
     c.in-Ok.step new d in
     let next : stamp ≡ next_stamp d.follows.can.state m =
     c.advance-stamp.ensures.next d.follows.can.state.stamp (last_at at.After-begins_number d.follows.can.state e) in
     let are : AreStamps c.advance-stamp.new.stamps.items (world_in new) =
     c.advance-stamp.ensures.stamps ∙ ap (λ j. set xs j stamp) (route_is at.After-begins_number)
-    ∙ stamps_after b.graph (length b.elements) (world_in b) (world_in new) d.event xs m stamp d.follows d.of c.requires.stamps next in
+    ∙ stamps_after b.graph (length b.elements) (world_in b) (world_in new) d.event xs m stamp d.follows d.of
+    c.requires.stamps next in
     if_ok_all _ c.compare.result (λ tail. are)
 
 pub returns-in-Ok-clause-cause : goal.returns-in-Ok-clause-cause
@@ -124,12 +142,16 @@ returns-in-Ok-clause-cause c =
     let e = element_is b text body k m past (here at.In-Some) (found at.In-Some) o c.in-Ok.step new d in
     let next : stamp ≡ next_stamp d.follows.can.state m =
     c.advance-stamp.ensures.next d.follows.can.state.stamp (last_at at.After-begins_number d.follows.can.state e) in
-    if_err_more (IsOther text past stamp c.in-Ok.step) (IsLineCause b.graph (length b.elements) (world_in b) text) c.compare.result
-    (λ cause other. other_line b text body k m past (here at.In-Some) (found at.In-Some) o c.in-Ok.step new d stamp next cause other) c.compare.ensures.other
+    if_err_more (IsOther text past stamp c.in-Ok.step) (IsLineCause b.graph (length b.elements) (world_in b) text)
+    c.compare.result
+    (λ cause other. other_line b text body k m past (here at.In-Some) (found at.In-Some) o c.in-Ok.step new d stamp next
+    cause other) c.compare.ensures.other
 
 pub returns-in-Err-StampEnd-clause-cause : goal.returns-in-Err-StampEnd-clause-cause
 returns-in-Err-StampEnd-clause-cause c =
     let at = goal.at.returns-in-Err-StampEnd-clause-cause c in
     let o = own at.After-begins_number c.if-not-begins_number.false in
-    no_stamp_left c.args.bench.now c.args.text.now c.behind-body.result.now c.in-Some.said.position c.in-Some.said.message c.in-Some.said.past.now
-    (here at.In-Some) (found at.In-Some) o (c.in-Err-StampEnd.ensures.end (ap (λ x. Err x) c.in-Err-StampEnd.field-0-is))
+    no_stamp_left c.args.bench.now c.args.text.now c.behind-body.result.now c.in-Some.said.position
+    c.in-Some.said.message c.in-Some.said.past.now
+    (here at.In-Some) (found at.In-Some) o
+    (c.in-Err-StampEnd.ensures.end (ap (λ x. Err x) c.in-Err-StampEnd.field-0-is))

@@ -13,11 +13,14 @@ returns-in-Err-clause-refuses g c =
     let over = c.in_ok-over.over in
     let k = c.read_ready.new.judge.lines in
     let piece = c.in_ok-over.ensures.reads in
-    let heard = piece_heard (g.L.Log.ahead c.args.log.now) (g.L.Log.ahead c.loop.log) (g.L.Log.ahead c.read_on.new.log) c.args.judge.now mid
+    let heard =
+    piece_heard (g.L.Log.ahead c.args.log.now) (g.L.Log.ahead c.loop.log) (g.L.Log.ahead c.read_on.new.log)
+    c.args.judge.now mid
     c.loop.bytes.items bytes over c.loop.invariant.1 piece in
     let refused : RefusesBefore mid c.as_slice.result.now over k c.in-Err.cause =
     subst (λ r. IfErr r (RefusesBefore mid c.as_slice.result.now over k)) c.in-Err.is c.in_ok-left.ensures.refuses in
-    wrong_heard (g.L.Log.ahead c.args.log.now) (g.L.Log.ahead c.read_on.new.log) c.args.judge.now mid bytes over k c.in-Err.cause heard piece.is_over
+    wrong_heard (g.L.Log.ahead c.args.log.now) (g.L.Log.ahead c.read_on.new.log) c.args.judge.now mid bytes over k
+    c.in-Err.cause heard piece.is_over
     (subst (λ t. RefusesBefore mid t over k c.in-Err.cause) c.as_slice.ensures.value refused)
 
 pub returns-then-over-clause-heard : goal.returns-then-over-clause-heard
@@ -29,12 +32,17 @@ returns-then-over-clause-heard g c =
     let many = c.in-Ok.left in
     let over = c.in_ok-over.over in
     let piece = c.in_ok-over.ensures.reads in
-    let heard = piece_heard (g.L.Log.ahead c.args.log.now) (g.L.Log.ahead c.loop.log) (g.L.Log.ahead c.read_on.new.log) c.args.judge.now mid
+    let heard =
+    piece_heard (g.L.Log.ahead c.args.log.now) (g.L.Log.ahead c.loop.log) (g.L.Log.ahead c.read_on.new.log)
+    c.args.judge.now mid
     c.loop.bytes.items bytes over c.loop.invariant.1 piece in
     let front : ReadsFront mid c.as_slice.result.now many new =
     subst (λ r. IfOk r (λ n. ReadsFront mid c.as_slice.result.now n new)) c.in-Ok.is c.in_ok-left.ensures.reads in
-    let none : over ≡ true → many ≡ 0 = subst (λ r. IfOk r (λ n. over ≡ true → n ≡ 0)) c.in-Ok.is c.in_ok-left.ensures.all in
-    let behind = lines_heard (g.L.Log.ahead c.args.log.now) (g.L.Log.ahead c.read_on.new.log) c.args.judge.now mid new bytes left many heard
+    let none : over ≡ true → many ≡ 0 =
+    subst (λ r. IfOk r (λ n. over ≡ true → n ≡ 0)) c.in-Ok.is c.in_ok-left.ensures.all in
+    let behind =
+    lines_heard (g.L.Log.ahead c.args.log.now) (g.L.Log.ahead c.read_on.new.log) c.args.judge.now mid new bytes left
+    many heard
     (subst (λ t. ReadsFront mid t many new) c.as_slice.ensures.value front) c.keep_last.ensures in
     all_heard (g.L.Log.ahead c.args.log.now) (g.L.Log.ahead c.read_on.new.log) c.args.judge.now new left behind
     (none_left bytes left many (none c.if-over.true) c.keep_last.ensures) (piece.is_over c.if-over.true)
@@ -45,12 +53,15 @@ loop-preserved g c =
     let new = c.read_ready.new.judge in
     let bytes = c.read_on.new.bytes.items in
     let many = c.in-Ok.left in
-    let heard = piece_heard (g.L.Log.ahead c.args.log.now) (g.L.Log.ahead c.loop.log) (g.L.Log.ahead c.read_on.new.log) c.args.judge.now mid
+    let heard =
+    piece_heard (g.L.Log.ahead c.args.log.now) (g.L.Log.ahead c.loop.log) (g.L.Log.ahead c.read_on.new.log)
+    c.args.judge.now mid
     c.loop.bytes.items bytes c.in_ok-over.over c.loop.invariant.1 c.in_ok-over.ensures.reads in
     let ready : IsReady new = subst (λ r. IfOk r (λ n. IsReady new)) c.in-Ok.is c.in_ok-left.ensures.ready in
     let front : ReadsFront mid c.as_slice.result.now many new =
     subst (λ r. IfOk r (λ n. ReadsFront mid c.as_slice.result.now n new)) c.in-Ok.is c.in_ok-left.ensures.reads in (
       ready,
-      lines_heard (g.L.Log.ahead c.args.log.now) (g.L.Log.ahead c.read_on.new.log) c.args.judge.now mid new bytes c.keep_last.new.bytes.items many heard
+      lines_heard (g.L.Log.ahead c.args.log.now) (g.L.Log.ahead c.read_on.new.log) c.args.judge.now mid new bytes
+          c.keep_last.new.bytes.items many heard
           (subst (λ t. ReadsFront mid t many new) c.as_slice.ensures.value front) c.keep_last.ensures,
     )

@@ -4,4 +4,5 @@ use Rattle.id_judge.proofs.HearLemmas.{Heard}
 use Rattle.id_judge.proofs.listen.read_log.Given as goal
 
 abbrev pub invariant-loop : goal.invariant-loop
-invariant-loop g l = IsReady l.judge × Heard (g.L.Log.ahead l.fn.log) (g.L.Log.ahead l.log) l.fn.judge l.bytes.items l.judge
+invariant-loop g l =
+    IsReady l.judge × Heard (g.L.Log.ahead l.fn.log) (g.L.Log.ahead l.log) l.fn.judge l.bytes.items l.judge

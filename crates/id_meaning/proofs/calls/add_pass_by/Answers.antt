@@ -9,8 +9,9 @@ use Rattle.id_facts.specs.declared.facts.RowValue.{RowValue}
 use Rattle.id_meaning.specs.Effects.{param_haves, param_row, pass_by}
 use Rattle.id_meaning.proofs.calls.add_pass_by.Goals as goal
 
-passed : (P : Checked) (e i : ℕ) (v : RowValue) (call : Option OnCall) (k : OnCall) (param : Option ℕ) → call ≡ Some k → k.enter ≡ e
-    → param ≡ param_row (length (rows P)) k.head i → param_haves k.path param (v ∷ []) ≡ pass_by P e i v call
+passed : (P : Checked) (e i : ℕ) (v : RowValue) (call : Option OnCall) (k : OnCall) (param : Option ℕ) → call ≡ Some k
+    → k.enter ≡ e → param ≡ param_row (length (rows P)) k.head i
+    → param_haves k.path param (v ∷ []) ≡ pass_by P e i v call
 passed P e i v call k param is same row = grind (arith, common_steps)
 
 pub returns-in-Some : goal.returns-in-Some
@@ -19,7 +20,8 @@ returns-in-Some c =
     let count : c.len.result ≡ length table.rows.items = omega (arith, c.len.ensures, table.rows.ok.0) in
     let row = c.param_row-param.ensures ∙ ap (λ n. param_row n c.in-Some.call.head c.args.index) count in
     on_ok_weaker c.add_param.result (λ added. added ∙ ap (λ ys. c.args.found.now.items ++ ys)
-    (passed c.args.checked.now c.args.enter c.args.index c.args.value c.args.call c.in-Some.call c.param_row-param.result
+    (passed c.args.checked.now c.args.enter c.args.index c.args.value c.args.call c.in-Some.call
+    c.param_row-param.result
     c.in-Some.is c.if-call-enter.true row))
     c.add_param.ensures
 

@@ -7,7 +7,8 @@ use Rattle.id_meaning.proofs.paths.write_steps.Goals as goal
 pub loop-rest-init : goal.loop-rest-init
 loop-rest-init c =
     let all : c.len-start.result ≡ length c.args.steps.now.items = omega (arith, c.args.steps.now.ok.0) in
-    written-none c.args.checked.now c.args.tree.now c.args.trail c.len-start.result c.args.steps.now.items c.requires all
+    written-none c.args.checked.now c.args.tree.now c.args.trail c.len-start.result c.args.steps.now.items c.requires
+    all
 
 pub loop-rest-smaller : goal.loop-rest-smaller
 loop-rest-smaller c =
@@ -27,5 +28,7 @@ loop-rest-preserved c =
     let more : 0 < depth_at fs q = omega (arith, c.depth.ensures.is, c.loop-rest-test.true) in
     let room = c.loop-rest.invariant.room in
     let one : n ≡ (n - 1) + 1 = omega (arith, more, room) in
-    written-more c.args.checked.now fs c.depth.ensures.kept c.args.trail q c.outside-rest.result n (n - 1) (length c.args.steps.now.items)
-    c.loop-rest.steps.items _ c.last_step.result c.loop-rest.invariant more c.outside-rest.ensures c.last_step.ensures one refl
+    written-more c.args.checked.now fs c.depth.ensures.kept c.args.trail q c.outside-rest.result n (n - 1)
+    (length c.args.steps.now.items)
+    c.loop-rest.steps.items _ c.last_step.result c.loop-rest.invariant more c.outside-rest.ensures c.last_step.ensures
+    one refl

@@ -19,7 +19,8 @@ returns-clause-facts c =
     let Q : List RowFact → Type 0 = λ fs. IsRound (source P c.args.inputs.now.values) c.args.n fs in
     let A : List RowFact → Type 0 = λ fs. AreShown P fs (facts_in P fs all) in
     AreFacts-from_rows (source P c.args.inputs.now.values) c.args.n p (facts_in P p all)
-    (subst Q (sym c.in_ok-paths.ensures) (subst R c.as_slice.ensures c.in_ok-facts.ensures.facts)) (subst A c.tree.ensures c.in_ok-rows.ensures)
+    (subst Q (sym c.in_ok-paths.ensures) (subst R c.as_slice.ensures c.in_ok-facts.ensures.facts))
+    (subst A c.tree.ensures c.in_ok-rows.ensures)
 
 pub returns-clause-few_facts : goal.returns-clause-few_facts
 returns-clause-few_facts c =

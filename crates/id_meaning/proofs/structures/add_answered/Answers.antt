@@ -10,7 +10,8 @@ loop-ask-init c = refl
 
 pub loop-ask-preserved : goal.loop-ask-preserved
 loop-ask-preserved c =
-    gathered-more (answered c.args.value) (λ q. Has q.path q.row c.args.value ∷ []) (λ _ _. refl) c.args.asks.now c.loop-ask.ask-index _ _ _ _
+    gathered-more (answered c.args.value) (λ q. Has q.path q.row c.args.value ∷ []) (λ _ _. refl) c.args.asks.now
+    c.loop-ask.ask-index _ _ _ _
     c.loop-ask-test.true c.in_ok-add_has.ensures c.loop-ask.invariant
 
 pub returns-in_err-add_has : goal.returns-in_err-add_has
@@ -18,4 +19,5 @@ returns-in_err-add_has c = on_ok _ c.from_residual.result c.from_residual.ensure
 
 pub returns : goal.returns
 returns c =
-    gathered-all (answered c.args.value) refl c.args.asks.now c.loop-ask.ask-index _ _ c.loop-ask-test.false c.loop-ask.invariant
+    gathered-all (answered c.args.value) refl c.args.asks.now c.loop-ask.ask-index _ _ c.loop-ask-test.false
+    c.loop-ask.invariant

@@ -5,5 +5,6 @@ use Rattle.id_meaning.proofs.structures.add_stored.Given as goal
 
 abbrev pub invariant-loop-target : goal.invariant-loop-target
 invariant-loop-target l =
-    l.found.items ++ stores l.cells l.path l.row (drop l.target-index l.targets) l.indices l.values ≡ l.initial.found.items ++
+    l.found.items ++ stores l.cells l.path l.row (drop l.target-index l.targets) l.indices l.values
+    ≡ l.initial.found.items ++
     stores l.cells l.path l.row l.targets l.indices l.values

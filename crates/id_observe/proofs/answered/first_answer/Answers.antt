@@ -6,10 +6,12 @@ use Rattle.id_observe.proofs.answered.first_answer.Goals as goal
 
 pub returns-then-is_some : goal.returns-then-is_some
 returns-then-is_some c =
-    filter_map-found value_told c.args.tellings.now.items c.loop-position.position _ c.value_by-value.result c.telling.ensures c.loop-position.invariant
+    filter_map-found value_told c.args.tellings.now.items c.loop-position.position _ c.value_by-value.result
+    c.telling.ensures c.loop-position.invariant
     (sym c.value_by-value.ensures) (sym c.is_some.ensures ∙ c.if-is_some.true)
 
 pub loop-position-preserved : goal.loop-position-preserved
 loop-position-preserved c =
-    filter_map-nothing value_told c.args.tellings.now.items c.loop-position.position _ c.value_by-value.result c.telling.ensures c.loop-position.invariant
+    filter_map-nothing value_told c.args.tellings.now.items c.loop-position.position _ c.value_by-value.result
+    c.telling.ensures c.loop-position.invariant
     (sym c.value_by-value.ensures) (sym c.is_some.ensures ∙ c.if-is_some.false)

@@ -7,5 +7,7 @@ use Rattle.id_observe.proofs.asks.add_handled.Goals as goal
 pub loop-position-preserved : goal.loop-position-preserved
 loop-position-preserved c =
     let p = c.args.paths.now in
-    let next = asks_of-events p.graph.now (path_by p) (structure_by p) c.args.events.now c.loop-position.position _ c.payload-payload.ensures in
+    let next =
+    asks_of-events p.graph.now (path_by p) (structure_by p) c.args.events.now c.loop-position.position _
+    c.payload-payload.ensures in
     rw (c.in_ok-add_ask.ensures, c.reader_in.ensures, c.loop-position.invariant, next, append_assoc)

@@ -14,15 +14,18 @@ use Rattle.id_observe.proofs.asks.all_asks.Goals as goal
 pub events-requires : goal.events-requires
 events-requires c =
     let es = c.args.whole.now.paths.elements.now in
-    let at : slice_get es c.loop-element.element-index ≡ Some c.element-item.result = slice_get_read es _ _ _ refl c.loop-element-test.true c.element-item.is in
+    let at : slice_get es c.loop-element.element-index ≡ Some c.element-item.result =
+    slice_get_read es _ _ _ refl c.loop-element-test.true c.element-item.is in
     all-get (λ e. e.keeps ≡ keeps.All) es c.loop-element.element-index c.element-item.result c.args.whole.now.kept at
 
 pub loop-element-preserved : goal.loop-element-preserved
 loop-element-preserved c =
     let p = c.args.whole.now.paths in
     let es = c.args.whole.now.paths.elements.now in
-    let at : slice_get es c.loop-element.element-index ≡ Some c.element-item.result = slice_get_read es _ _ _ refl c.loop-element-test.true c.element-item.is in
-    let next = asks_of-records p.graph.now (path_by p) (structure_by p) es c.loop-element.element-index c.element-item.result at in
+    let at : slice_get es c.loop-element.element-index ≡ Some c.element-item.result =
+    slice_get_read es _ _ _ refl c.loop-element-test.true c.element-item.is in
+    let next =
+    asks_of-records p.graph.now (path_by p) (structure_by p) es c.loop-element.element-index c.element-item.result at in
     rw (c.in_ok-add_handled.ensures, c.loop-element.invariant, c.events.ensures.value, next)
 
 pub returns-in_err-add_handled : goal.returns-in_err-add_handled

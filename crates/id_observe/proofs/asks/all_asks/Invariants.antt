@@ -5,5 +5,6 @@ use Rattle.id_observe.specs.Observed.{asks_of}
 use Rattle.id_observe.proofs.asks.all_asks.Given as goal
 
 abbrev pub invariant-loop-element : goal.invariant-loop-element
-invariant-loop-element l = l.asks.items ≡ asks_of l.whole.paths.graph.now (path_by l.whole.paths) (structure_by l.whole.paths)
+invariant-loop-element l =
+    l.asks.items ≡ asks_of l.whole.paths.graph.now (path_by l.whole.paths) (structure_by l.whole.paths)
     (events_of (map (λ e. e.state) (take l.element-index l.whole.paths.elements.now)))

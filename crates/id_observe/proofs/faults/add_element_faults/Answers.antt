@@ -10,7 +10,9 @@ pub returns-then-all_went : goal.returns-then-all_went
 returns-then-all_went c =
     let p = c.args.paths.now in
     let old = c.args.faults.now.items in
-    let none = went_none p.graph.now (path_by p) (structure_by p) c.args.element.now.state.events (c.all_went.ensures.0 c.if-all_went.true) in
+    let none =
+    went_none p.graph.now (path_by p) (structure_by p) c.args.element.now.state.events
+    (c.all_went.ensures.0 c.if-all_went.true) in
     sym (ap (λ fs. old ++ fs) none ∙ append-nil old)
 
 pub returns-in_ok-add_faults : goal.returns-in_ok-add_faults

@@ -8,6 +8,9 @@ use Rattle.id_observe.proofs.faults.add_faults.Goals as goal
 
 pub loop-position-preserved : goal.loop-position-preserved
 loop-position-preserved c =
-    let next = filter_map-next (λ e. fault_of c.args.paths.now.graph.now (path_by c.args.paths.now) (structure_by c.args.paths.now) e.step) c.args.events.now
+    let next =
+    filter_map-next
+    (λ e. fault_of c.args.paths.now.graph.now (path_by c.args.paths.now) (structure_by c.args.paths.now) e.step)
+    c.args.events.now
     c.loop-position.position _ c.event-event.ensures in
     rw (c.in_ok-add_fault.ensures, c.in_ok-source_fault.ensures, c.loop-position.invariant, next, append_assoc)

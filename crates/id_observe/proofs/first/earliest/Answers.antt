@@ -20,7 +20,8 @@ loop-element-preserved c =
     record {
       first =
           c.earlier-first.ensures ∙ ap (earlier_of c.loop-element.first) c.fault.ensures
-          ∙ ap (λ f. earlier_of f (first_fault e.state.events)) c.loop-element.invariant.first ∙ sym (earliest-next es i e at);
+          ∙ ap (λ f. earlier_of f (first_fault e.state.events)) c.loop-element.invariant.first
+          ∙ sym (earliest-next es i e at);
       kept =
           All-same Replays (take (i + 1) es) (take i es ++ e ∷ []) (take-next es i e at)
           (All-push Replays (take i es) e c.loop-element.invariant.kept c.handled-handled.ensures.kept);
@@ -29,10 +30,12 @@ loop-element-preserved c =
 pub returns-clause-first : goal.returns-clause-first
 returns-clause-first c =
     c.loop-element.invariant.first
-    ∙ ap (λ es. earliest_in (map (λ e. e.state) es)) (take_all c.loop-element.element-index c.args.elements.now c.loop-element-test.false)
+    ∙ ap (λ es. earliest_in (map (λ e. e.state) es))
+    (take_all c.loop-element.element-index c.args.elements.now c.loop-element-test.false)
 
 pub returns-clause-kept : goal.returns-clause-kept
 returns-clause-kept c =
     let es = c.args.elements.now in
-    All-same Replays es (take c.loop-element.element-index es) (sym (take_all c.loop-element.element-index es c.loop-element-test.false))
+    All-same Replays es (take c.loop-element.element-index es)
+    (sym (take_all c.loop-element.element-index es c.loop-element-test.false))
     c.loop-element.invariant.kept

@@ -28,5 +28,6 @@ returns-in-Some c =
 pub returns-in-None : goal.returns-in-None
 returns-in-None c =
     let es = c.args.records.now.elements.now in
-    none-shown c.args.records.now.graph.now es (sorted_from_strictly_increasing _ c.requires) (recursion_from_All Replays es c.earliest.ensures.kept)
+    none-shown c.args.records.now.graph.now es (sorted_from_strictly_increasing _ c.requires)
+    (recursion_from_All Replays es c.earliest.ensures.kept)
     (sym c.earliest.ensures.first ∙ c.in-None.is)

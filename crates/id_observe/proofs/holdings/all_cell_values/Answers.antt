@@ -14,15 +14,19 @@ use Rattle.id_observe.proofs.holdings.all_cell_values.Goals as goal
 pub loop-element-preserved : goal.loop-element-preserved
 loop-element-preserved c =
     let es = c.args.paths.now.elements.now in
-    let at : slice_get es c.loop-element.element-index ≡ Some c.element-item.result = slice_get_read es _ _ _ refl c.loop-element-test.true c.element-item.is in
-    let next = walk-next (λ s. cells_of s.cells) (cell_value_of (structure_by c.args.paths.now)) es c.loop-element.element-index c.element-item.result at in
+    let at : slice_get es c.loop-element.element-index ≡ Some c.element-item.result =
+    slice_get_read es _ _ _ refl c.loop-element-test.true c.element-item.is in
+    let next =
+    walk-next (λ s. cells_of s.cells) (cell_value_of (structure_by c.args.paths.now)) es c.loop-element.element-index
+    c.element-item.result at in
     rw (c.in_ok-add_cell_values.ensures, c.loop-element.invariant, c.in_ok-cells.ensures, next)
 
 pub returns-in_err-cells : goal.returns-in_err-cells
 returns-in_err-cells c = if_err _ c.from_residual.result c.from_residual.ensures.0
 
 pub returns-in_err-add_cell_values : goal.returns-in_err-add_cell_values
-returns-in_err-add_cell_values c = if_err _ c.from_residual-in_err-add_cell_values.result c.from_residual-in_err-add_cell_values.ensures.0
+returns-in_err-add_cell_values c =
+    if_err _ c.from_residual-in_err-add_cell_values.result c.from_residual-in_err-add_cell_values.ensures.0
 
 pub returns : goal.returns
 returns c =

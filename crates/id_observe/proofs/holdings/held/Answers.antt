@@ -17,7 +17,8 @@ pub returns-clause-structures : goal.returns-clause-structures
 returns-clause-structures c =
     let told = c.in_ok-paths.ensures in
     subst (λ l. IfOk c.held_by.result (λ o. o.structures ≡ l))
-    (structures-from_makings c.args.records.now.graph.now c.args.records.now.elements.now c.in_ok-paths.paths told.graph told.paths told.makings)
+    (structures-from_makings c.args.records.now.graph.now c.args.records.now.elements.now c.in_ok-paths.paths told.graph
+    told.paths told.makings)
     c.held_by.ensures.structures
 
 -- what the cells hold is that of what is put into them
@@ -28,7 +29,8 @@ returns-clause-cells c =
     let p = c.in_ok-paths.paths in
     let fs = flat_map (λ e. cells_of e.cells) ss in
     subst (λ l. IfOk c.held_by.result (λ o. o.cells ≡ l))
-    (ap (λ es. filter_map (cell_value_of (structure_by p)) (flat_map (λ e. cells_of e.cells) (map (λ e. e.state) es))) c.in_ok-paths.ensures.elements
+    (ap (λ es. filter_map (cell_value_of (structure_by p)) (flat_map (λ e. cells_of e.cells) (map (λ e. e.state) es)))
+    c.in_ok-paths.ensures.elements
     ∙ ap (λ name. filter_map (cell_value_of name) fs) c.in_ok-paths.ensures.structures
     ∙ cell_values-from_puts g (path_in g ss) (structure_in g ss) fs)
     c.held_by.ensures.cells
@@ -59,7 +61,8 @@ returns-clause-waiting c =
     let g = c.args.records.now.graph.now in
     let p = c.in_ok-paths.paths in
     subst (λ l. IfOk c.held_by.result (λ o. o.waiting ≡ l))
-    (ap (λ es. map (ask_of p.graph.now (path_by p) (structure_by p)) (flat_map (λ e. deferred_of e.cells) (map (λ e. e.state) es))) told.elements
+    (ap (λ es. map (ask_of p.graph.now (path_by p) (structure_by p))
+    (flat_map (λ e. deferred_of e.cells) (map (λ e. e.state) es))) told.elements
     ∙ ap (λ h. map (ask_of h (path_by p) (structure_by p)) (flat_map (λ e. deferred_of e.cells) ss)) told.graph
     ∙ ap (λ at. map (ask_of g at (structure_by p)) (flat_map (λ e. deferred_of e.cells) ss)) told.paths
     ∙ ap (λ name. map (ask_of g (path_in g ss) name) (flat_map (λ e. deferred_of e.cells) ss)) told.structures)

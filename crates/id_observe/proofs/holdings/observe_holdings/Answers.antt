@@ -8,16 +8,20 @@ use Rattle.id_observe.proofs.holdings.observe_holdings.Goals as goal
 pub returns-then-hold_nothing-clause-structures : goal.returns-then-hold_nothing-clause-structures
 returns-then-hold_nothing-clause-structures c =
     let none = (c.hold_nothing.ensures.0 c.if-hold_nothing.true).0 in
-    c.no_holdings.ensures.structures ∙ sym (structures-none c.args.records.now.graph.now c.args.records.now.elements.now none)
+    c.no_holdings.ensures.structures
+    ∙ sym (structures-none c.args.records.now.graph.now c.args.records.now.elements.now none)
 
 pub returns-then-hold_nothing-clause-cells : goal.returns-then-hold_nothing-clause-cells
 returns-then-hold_nothing-clause-cells c =
     c.no_holdings.ensures.cells ∙ sym (ap (map cell_value)
-    (cells-none c.args.records.now.graph.now c.args.records.now.elements.now (c.hold_nothing.ensures.0 c.if-hold_nothing.true).1))
+    (cells-none c.args.records.now.graph.now c.args.records.now.elements.now
+    (c.hold_nothing.ensures.0 c.if-hold_nothing.true).1))
 
 pub returns-then-hold_nothing-clause-waiting : goal.returns-then-hold_nothing-clause-waiting
 returns-then-hold_nothing-clause-waiting c =
-    c.no_holdings.ensures.waiting ∙ sym (waiting-none c.args.records.now.graph.now c.args.records.now.elements.now (c.hold_nothing.ensures.0 c.if-hold_nothing.true).1)
+    c.no_holdings.ensures.waiting
+    ∙ sym (waiting-none c.args.records.now.graph.now c.args.records.now.elements.now
+    (c.hold_nothing.ensures.0 c.if-hold_nothing.true).1)
 
 pub returns-in_err-answer : goal.returns-in_err-answer
 returns-in_err-answer c = record {

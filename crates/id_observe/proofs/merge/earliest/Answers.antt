@@ -12,4 +12,7 @@ loop-index-preserved c =
     let h : Head = get_or hs i (record { position = 0; stamp = None }) in
     let more : take (i + 1) hs ≡ take i hs ++ h ∷ [] = take_more hs i _ c.loop-index-test.true in
     let count : length (take i hs) ≡ i = omega (arith, length-take i hs) in
-    rw (c.earlier-first.ensures, more) (rw count at (IsCandidate-push (take i hs) c.loop-index.first h c.loop-index.invariant))
+    rw (
+      c.earlier-first.ensures,
+      more,
+    ) (rw count at (IsCandidate-push (take i hs) c.loop-index.first h c.loop-index.invariant))

@@ -15,7 +15,8 @@ pub returns-clause-structures : goal.returns-clause-structures
 returns-clause-structures c =
     let told = c.in_ok-paths.ensures in
     subst (λ l. IfOk c.shown_by.result (λ o. o.structures ≡ l))
-    (structures-from_makings c.graph.result.now c.args.elements.now c.in_ok-paths.paths told.graph told.paths told.makings
+    (structures-from_makings c.graph.result.now c.args.elements.now c.in_ok-paths.paths told.graph told.paths
+    told.makings
     ∙ ap (λ h. structures_in h (map (λ e. e.state) c.args.elements.now)) c.graph.ensures.value)
     c.shown_by.ensures.structures
 
@@ -62,11 +63,13 @@ returns-clause-cells c =
     let g = c.graph.result.now in
     let p = c.in_ok-paths.paths in
     subst (λ l. IfOk c.shown_by.result (λ o. o.cells ≡ l))
-    (ap (λ es. filter_map (put_of p.graph.now (path_by p) (structure_by p)) (flat_map (λ e. cells_of e.cells) (map (λ e. e.state) es))) told.elements
+    (ap (λ es. filter_map (put_of p.graph.now (path_by p) (structure_by p))
+    (flat_map (λ e. cells_of e.cells) (map (λ e. e.state) es))) told.elements
     ∙ ap (λ h. filter_map (put_of h (path_by p) (structure_by p)) (flat_map (λ e. cells_of e.cells) ss)) told.graph
     ∙ ap (λ at. filter_map (put_of g at (structure_by p)) (flat_map (λ e. cells_of e.cells) ss)) told.paths
     ∙ ap (λ name. filter_map (put_of g (path_in g ss) name) (flat_map (λ e. cells_of e.cells) ss)) told.structures
-    ∙ ap (λ h. filter_map (put_of h (path_in h ss) (structure_in h ss)) (flat_map (λ e. cells_of e.cells) ss)) c.graph.ensures.value)
+    ∙ ap (λ h. filter_map (put_of h (path_in h ss) (structure_in h ss)) (flat_map (λ e. cells_of e.cells) ss))
+    c.graph.ensures.value)
     c.shown_by.ensures.cells
 
 pub returns-clause-waiting : goal.returns-clause-waiting
@@ -76,11 +79,13 @@ returns-clause-waiting c =
     let g = c.graph.result.now in
     let p = c.in_ok-paths.paths in
     subst (λ l. IfOk c.shown_by.result (λ o. o.waiting ≡ l))
-    (ap (λ es. map (ask_of p.graph.now (path_by p) (structure_by p)) (flat_map (λ e. deferred_of e.cells) (map (λ e. e.state) es))) told.elements
+    (ap (λ es. map (ask_of p.graph.now (path_by p) (structure_by p))
+    (flat_map (λ e. deferred_of e.cells) (map (λ e. e.state) es))) told.elements
     ∙ ap (λ h. map (ask_of h (path_by p) (structure_by p)) (flat_map (λ e. deferred_of e.cells) ss)) told.graph
     ∙ ap (λ at. map (ask_of g at (structure_by p)) (flat_map (λ e. deferred_of e.cells) ss)) told.paths
     ∙ ap (λ name. map (ask_of g (path_in g ss) name) (flat_map (λ e. deferred_of e.cells) ss)) told.structures
-    ∙ ap (λ h. map (ask_of h (path_in h ss) (structure_in h ss)) (flat_map (λ e. deferred_of e.cells) ss)) c.graph.ensures.value)
+    ∙ ap (λ h. map (ask_of h (path_in h ss) (structure_in h ss)) (flat_map (λ e. deferred_of e.cells) ss))
+    c.graph.ensures.value)
     c.shown_by.ensures.waiting
 
 pub returns-clause-faults : goal.returns-clause-faults

@@ -22,17 +22,20 @@ returns c =
           told.enters d
           ∙ ap (λ ts. option_or (enter_by g ts d) (get same_context old.enters d)) c.tellings.ensures
           ∙ ap (λ o. option_or o (get same_context old.enters d))
-          (subst (λ h. enter_by h (tellings e.state.events) d ≡ enter_in h e.state.events d) c.requires (enters-told e d kept));
+          (subst (λ h. enter_by h (tellings e.state.events) d ≡ enter_in h e.state.events d) c.requires
+          (enters-told e d kept));
       makers = λ s.
           told.makers s
           ∙ ap (λ ts. option_or (maker_by g ts s) (get same_structure old.makers s)) c.tellings.ensures
           ∙ ap (λ o. option_or o (get same_structure old.makers s))
-          (subst (λ h. maker_by h (tellings e.state.events) s ≡ maker_in h e.state.events s) c.requires (makers-told e s kept));
+          (subst (λ h. maker_by h (tellings e.state.events) s ≡ maker_in h e.state.events s) c.requires
+          (makers-told e s kept));
       makings =
           told.makings
           ∙ ap (λ ts. old.makings.items ++ filter_map (making_told g) ts) c.tellings.ensures
           ∙ ap (λ ms. old.makings.items ++ ms)
-          (subst (λ h. filter_map (making_told h) (tellings e.state.events) ≡ makings_of h e.state.events) c.requires (makings-of_told e kept));
+          (subst (λ h. filter_map (making_told h) (tellings e.state.events) ≡ makings_of h e.state.events) c.requires
+          (makings-of_told e kept));
       values =
           told.values
           ∙ ap (λ ts. old.values.items ++ filter_map value_told ts) c.tellings.ensures

@@ -23,8 +23,10 @@ loop-element-init c = record {
 pub add_record-requires : goal.add_record-requires
 add_record-requires c =
     let es = c.args.records.now.elements.now in
-    let at : slice_get es c.loop-element.element-index ≡ Some c.element-item.result = slice_get_read es _ _ _ refl c.loop-element-test.true c.element-item.is in
-    all-get (λ e. e.graph ≡ c.args.records.now.graph.now) es c.loop-element.element-index c.element-item.result c.args.records.now.of at
+    let at : slice_get es c.loop-element.element-index ≡ Some c.element-item.result =
+    slice_get_read es _ _ _ refl c.loop-element-test.true c.element-item.is in
+    all-get (λ e. e.graph ≡ c.args.records.now.graph.now) es c.loop-element.element-index c.element-item.result
+    c.args.records.now.of at
 
 pub loop-element-preserved : goal.loop-element-preserved
 loop-element-preserved c =
@@ -36,14 +38,24 @@ loop-element-preserved c =
     record {
       enters = λ d.
           c.in_ok-add_record.ensures.enters d
-          ∙ ap (option_or (enter_in g e.state.events d)) (c.loop-element.invariant.enters d) ∙ sym (last-next (enter_in-last g d) es i e at);
+          ∙ ap (option_or (enter_in g e.state.events d)) (c.loop-element.invariant.enters d)
+          ∙ sym (last-next (enter_in-last g d) es i e at);
       makers = λ d.
           c.in_ok-add_record.ensures.makers d
-          ∙ ap (option_or (maker_in g e.state.events d)) (c.loop-element.invariant.makers d) ∙ sym (last-next (maker_in-last g d) es i e at);
+          ∙ ap (option_or (maker_in g e.state.events d)) (c.loop-element.invariant.makers d)
+          ∙ sym (last-next (maker_in-last g d) es i e at);
       makings =
-          rw (c.in_ok-add_record.ensures.makings, c.loop-element.invariant.makings, walk-next (λ s. s.events) (making_of g) es i e at);
+          rw (
+            c.in_ok-add_record.ensures.makings,
+            c.loop-element.invariant.makings,
+            walk-next (λ s. s.events) (making_of g) es i e at,
+          );
       values =
-          rw (c.in_ok-add_record.ensures.values, c.loop-element.invariant.values, walk-next (λ s. s.events) (λ v. brought v.message.payload) es i e at);
+          rw (
+            c.in_ok-add_record.ensures.values,
+            c.loop-element.invariant.values,
+            walk-next (λ s. s.events) (λ v. brought v.message.payload) es i e at,
+          );
     }
 
 pub returns-in_err-add_record : goal.returns-in_err-add_record

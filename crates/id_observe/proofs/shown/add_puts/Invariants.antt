@@ -7,7 +7,8 @@ use Rattle.id_observe.specs.Paths.{path_by}
 use Rattle.id_observe.proofs.shown.add_puts.Given as goal
 
 abbrev pub invariant-loop-cell : goal.invariant-loop-cell
-invariant-loop-cell l = l.puts.items ++ filter_map (put_of l.paths.graph.now (path_by l.paths) (structure_by l.paths)) l.cells
+invariant-loop-cell l =
+    l.puts.items ++ filter_map (put_of l.paths.graph.now (path_by l.paths) (structure_by l.paths)) l.cells
     ≡ l.fn.puts.items ++ filter_map (put_of l.paths.graph.now (path_by l.paths) (structure_by l.paths)) l.fn.cells
 
 abbrev pub decreases-loop-cell : goal.decreases-loop-cell

@@ -15,8 +15,11 @@ use Rattle.id_observe.proofs.shown.all_waiting.Goals as goal
 pub loop-element-preserved : goal.loop-element-preserved
 loop-element-preserved c =
     let es = c.args.paths.now.elements.now in
-    let at : slice_get es c.loop-element.element-index ≡ Some c.element-item.result = slice_get_read es _ _ _ refl c.loop-element-test.true c.element-item.is in
-    let next = images-next (λ s. deferred_of s.cells) (ask_of c.args.paths.now.graph.now (path_by c.args.paths.now) (structure_by c.args.paths.now)) es
+    let at : slice_get es c.loop-element.element-index ≡ Some c.element-item.result =
+    slice_get_read es _ _ _ refl c.loop-element-test.true c.element-item.is in
+    let next =
+    images-next (λ s. deferred_of s.cells)
+    (ask_of c.args.paths.now.graph.now (path_by c.args.paths.now) (structure_by c.args.paths.now)) es
     c.loop-element.element-index c.element-item.result at in
     rw (c.in_ok-add_asks.ensures, c.loop-element.invariant, c.as_slice.ensures.value, c.in_ok-deferred.ensures, next)
 

@@ -5,4 +5,5 @@ use Rattle.id_observe.specs.Observed.{claims}
 use Rattle.id_observe.proofs.shown.counts_by_place.Given as goal
 
 abbrev pub invariant-loop-instr : goal.invariant-loop-instr
-invariant-loop-instr l = (p : ℕ) → unwrap_or (get nat_eq l.counts p) 0 ≡ count_by (claims p) (take l.instr-index l.instr-items)
+invariant-loop-instr l =
+    (p : ℕ) → unwrap_or (get nat_eq l.counts p) 0 ≡ count_by (claims p) (take l.instr-index l.instr-items)

@@ -11,10 +11,14 @@ pub loop-instr-preserved : goal.loop-instr-preserved
 loop-instr-preserved c =
     let is = c.instrs-instr-items.result.now in
     let i = c.instr-item.result in
-    let at : slice_get is c.loop-instr.instr-index ≡ Some i = slice_get_read is _ _ _ refl c.loop-instr-test.true c.instr-item.is in
+    let at : slice_get is c.loop-instr.instr-index ≡ Some i =
+    slice_get_read is _ _ _ refl c.loop-instr-test.true c.instr-item.is in
     let mark : c.is_counted_label.result ≡ is_label_of c.args.graph.now (Some i) =
     c.is_counted_label.ensures ∙ ap (λ n. is_value_merge i.op && (n == 1)) (c.in_ok-counts.ensures i.place) in
-    rw (c.in_ok-push.ensures.items, c.loop-instr.invariant) (sym (marks-next c.args.graph.now is c.loop-instr.instr-index i c.is_counted_label.result at mark))
+    rw (
+      c.in_ok-push.ensures.items,
+      c.loop-instr.invariant,
+    ) (sym (marks-next c.args.graph.now is c.loop-instr.instr-index i c.is_counted_label.result at mark))
 
 pub returns : goal.returns
 returns c =

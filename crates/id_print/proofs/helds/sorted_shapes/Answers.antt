@@ -12,7 +12,8 @@ returns-clause-same c = rw c.new.ensures (rw c.into_vec-shapes.ensures at c.in_o
 
 pub returns-clause-up : goal.returns-clause-up
 returns-clause-up c =
-    let up = c.in_ok-sort_by.ensures.sorted (λ s t. is_lt (held_cmp (Array s) (Array t))) (ranks_by helds_told.total Array)
+    let up = c.in_ok-sort_by.ensures.sorted (λ s t. is_lt (held_cmp (Array s) (Array t)))
+    (ranks_by helds_told.total Array)
     (answers_always _ (λ a r. is_lt r ≡ is_lt (held_cmp (Array a.0.now) (Array a.1.0.now))) _
     (λ f a r f' q. let e : r ≡ held_cmp (Array a.0.now) (Array a.1.0.now) = search rules in ap is_lt e)) in
     rw c.new.ensures up

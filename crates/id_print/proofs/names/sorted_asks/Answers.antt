@@ -20,4 +20,5 @@ pub returns-clause-sorted : goal.returns-clause-sorted
 returns-clause-sorted c = sorted c
 
 pub returns-clause-rise : goal.returns-clause-rise
-returns-clause-rise c = λ apart. Rises-sorted ask_cmp WaitBefore OfOneFetch asks_told c.new.result c.args.asks (sorted c) apart
+returns-clause-rise c =
+    λ apart. Rises-sorted ask_cmp WaitBefore OfOneFetch asks_told c.new.result c.args.asks (sorted c) apart

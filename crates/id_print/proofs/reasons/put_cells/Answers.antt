@@ -11,7 +11,8 @@ returns-in_err-put_asked g c =
     let prints = rw c.loop-cell.invariant.same at c.in_err-put_asked.ensures.prints in
     record {
       prints = Prints-more_stop (asked_text c.args.pen.now) c.args.cells.now c.loop-cell.cell-index _ _ _ _ _ _ _
-          (slice_get-get_or c.args.cells.now c.loop-cell.cell-index _ c.loop-cell-test.true) c.loop-cell.invariant.printed prints c.from_residual.ensures.0;
+          (slice_get-get_or c.args.cells.now c.loop-cell.cell-index _ c.loop-cell-test.true)
+          c.loop-cell.invariant.printed prints c.from_residual.ensures.0;
       same = c.in_err-put_asked.ensures.same ∙ c.loop-cell.invariant.same;
     }
 
@@ -20,12 +21,15 @@ loop-cell-preserved g c =
     let prints = rw c.loop-cell.invariant.same at c.in_ok-put_asked.ensures.prints in
     record {
       printed = Prints-more (asked_text c.args.pen.now) c.args.cells.now c.loop-cell.cell-index _ _ _ _ _ _
-          (slice_get-get_or c.args.cells.now c.loop-cell.cell-index _ c.loop-cell-test.true) c.loop-cell.invariant.printed prints;
+          (slice_get-get_or c.args.cells.now c.loop-cell.cell-index _ c.loop-cell-test.true)
+          c.loop-cell.invariant.printed prints;
       same = c.in_ok-put_asked.ensures.same ∙ c.loop-cell.invariant.same;
     }
 
 pub returns : goal.returns
 returns g c = record {
-  prints = same_text _ _ _ _ _ (all-of (asked_text c.args.pen.now) c.args.cells.now c.loop-cell.cell-index c.loop-cell-test.false) c.loop-cell.invariant.printed;
+  prints = same_text _ _ _ _ _
+      (all-of (asked_text c.args.pen.now) c.args.cells.now c.loop-cell.cell-index c.loop-cell-test.false)
+      c.loop-cell.invariant.printed;
   same = c.loop-cell.invariant.same;
 }

@@ -7,6 +7,7 @@ use Rattle.id_print.proofs.reasons.put_cells.Given as goal
 
 abbrev pub invariant-loop-cell : goal.invariant-loop-cell
 invariant-loop-cell g l = record {
-  printed : Prints (g.W.Sink.told l.initial.sink) (g.W.Sink.told l.sink) (flat_map (asked_text l.initial.pen) (take l.cell-index l.cells)) (Ok tt);
+  printed : Prints (g.W.Sink.told l.initial.sink) (g.W.Sink.told l.sink)
+      (flat_map (asked_text l.initial.pen) (take l.cell-index l.cells)) (Ok tt);
   same : l.pen ≡ l.initial.pen;
 }

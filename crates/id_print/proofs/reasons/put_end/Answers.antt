@@ -19,4 +19,5 @@ returns-in_err-put_number g c =
 pub returns-in_ok-put_number : goal.returns-in_ok-put_number
 returns-in_ok-put_number g c =
     same_text _ _ _ _ _ (ap (λ b. end_text b c.args.n) (sym c.if-ended.false))
-    (Prints-then _ _ _ _ _ _ _ c.in_ok-put.ensures (Prints-then _ _ _ _ _ _ _ c.in_ok-put_number.ensures c.put-else-ended.ensures))
+    (Prints-then _ _ _ _ _ _ _ c.in_ok-put.ensures
+    (Prints-then _ _ _ _ _ _ _ c.in_ok-put_number.ensures c.put-else-ended.ensures))

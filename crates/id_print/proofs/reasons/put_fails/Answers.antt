@@ -9,7 +9,8 @@ returns-in_err-put g c =
     let pen = c.args.pen.now in
     let line = c.args.line.now in
     record {
-      prints = Prints-stop _ _ _ (thing_text pen line.thing ++ (codes " on" ++ values_text pen line.values.items)) _ _ c.in_err-put.ensures c.from_residual.ensures.0;
+      prints = Prints-stop _ _ _ (thing_text pen line.thing ++ (codes " on" ++ values_text pen line.values.items)) _ _
+          c.in_err-put.ensures c.from_residual.ensures.0;
       same = refl;
     }
 
@@ -19,7 +20,8 @@ returns-in_err-put_thing g c =
     let line = c.args.line.now in
     record {
       prints = Prints-then _ _ _ _ _ _ _ c.in_ok-put.ensures
-          (Prints-stop _ _ _ (codes " on" ++ values_text pen line.values.items) _ _ c.in_err-put_thing.ensures.prints c.from_residual-in_err-put_thing.ensures.0);
+          (Prints-stop _ _ _ (codes " on" ++ values_text pen line.values.items) _ _ c.in_err-put_thing.ensures.prints
+          c.from_residual-in_err-put_thing.ensures.0);
       same = c.in_err-put_thing.ensures.same;
     }
 
@@ -29,13 +31,17 @@ returns-in_err-put-2 g c =
     let line = c.args.line.now in
     record {
       prints = Prints-then _ _ _ _ _ _ _ c.in_ok-put.ensures (Prints-then _ _ _ _ _ _ _ c.in_ok-put_thing.ensures.prints
-          (Prints-stop _ _ _ (values_text pen line.values.items) _ _ c.in_err-put-2.ensures c.from_residual-in_err-put-2.ensures.0));
+          (Prints-stop _ _ _ (values_text pen line.values.items) _ _ c.in_err-put-2.ensures
+          c.from_residual-in_err-put-2.ensures.0));
       same = c.in_ok-put_thing.ensures.same;
     }
 
 pub returns : goal.returns
 returns g c = record {
   prints = Prints-then _ _ _ _ _ _ _ c.in_ok-put.ensures (Prints-then _ _ _ _ _ _ _ c.in_ok-put_thing.ensures.prints
-      (Prints-then _ _ _ _ _ _ _ c.in_ok-put-2.ensures (rw (c.in_ok-put_thing.ensures.same, c.as_slice.ensures.value) at c.put_values.ensures.prints)));
+      (Prints-then _ _ _ _ _ _ _ c.in_ok-put-2.ensures (rw (
+        c.in_ok-put_thing.ensures.same,
+        c.as_slice.ensures.value,
+      ) at c.put_values.ensures.prints)));
   same = c.put_values.ensures.same ∙ c.in_ok-put_thing.ensures.same;
 }

@@ -11,7 +11,8 @@ returns-in_err-put_line g c =
     let prints = rw c.loop-line.invariant.same at c.in_err-put_line.ensures.prints in
     record {
       prints = Prints-more_stop (line_text c.args.pen.now) c.args.lines.now c.loop-line.line-index _ _ _ _ _ _ _
-          (slice_get_read c.args.lines.now _ c.loop-line.line-index c.line-item.result refl c.loop-line-test.true c.line-item.is) c.loop-line.invariant.printed prints c.from_residual.ensures.0;
+          (slice_get_read c.args.lines.now _ c.loop-line.line-index c.line-item.result refl c.loop-line-test.true
+          c.line-item.is) c.loop-line.invariant.printed prints c.from_residual.ensures.0;
       same = c.in_err-put_line.ensures.same ∙ c.loop-line.invariant.same;
     }
 
@@ -20,12 +21,15 @@ loop-line-preserved g c =
     let prints = rw c.loop-line.invariant.same at c.in_ok-put_line.ensures.prints in
     record {
       printed = Prints-more (line_text c.args.pen.now) c.args.lines.now c.loop-line.line-index _ _ _ _ _ _
-          (slice_get_read c.args.lines.now _ c.loop-line.line-index c.line-item.result refl c.loop-line-test.true c.line-item.is) c.loop-line.invariant.printed prints;
+          (slice_get_read c.args.lines.now _ c.loop-line.line-index c.line-item.result refl c.loop-line-test.true
+          c.line-item.is) c.loop-line.invariant.printed prints;
       same = c.in_ok-put_line.ensures.same ∙ c.loop-line.invariant.same;
     }
 
 pub returns : goal.returns
 returns g c = record {
-  prints = same_text _ _ _ _ _ (all-of (line_text c.args.pen.now) c.args.lines.now c.loop-line.line-index c.loop-line-test.false) c.loop-line.invariant.printed;
+  prints = same_text _ _ _ _ _
+      (all-of (line_text c.args.pen.now) c.args.lines.now c.loop-line.line-index c.loop-line-test.false)
+      c.loop-line.invariant.printed;
   same = c.loop-line.invariant.same;
 }

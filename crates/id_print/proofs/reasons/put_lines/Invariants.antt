@@ -7,6 +7,7 @@ use Rattle.id_print.proofs.reasons.put_lines.Given as goal
 
 abbrev pub invariant-loop-line : goal.invariant-loop-line
 invariant-loop-line g l = record {
-  printed : Prints (g.W.Sink.told l.initial.sink) (g.W.Sink.told l.sink) (flat_map (line_text l.initial.pen) (take l.line-index l.lines)) (Ok tt);
+  printed : Prints (g.W.Sink.told l.initial.sink) (g.W.Sink.told l.sink)
+      (flat_map (line_text l.initial.pen) (take l.line-index l.lines)) (Ok tt);
   same : l.pen ≡ l.initial.pen;
 }

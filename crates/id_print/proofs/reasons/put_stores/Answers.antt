@@ -10,7 +10,8 @@ pub returns-in_err-put : goal.returns-in_err-put
 returns-in_err-put g c =
     let ts = c.args.stores.now in
     record {
-      prints = same_text _ _ _ _ _ (stores-some c.args.pen.now ts (not-empty ts c.is_empty.result c.is_empty.ensures c.if-is_empty.false))
+      prints = same_text _ _ _ _ _
+          (stores-some c.args.pen.now ts (not-empty ts c.is_empty.result c.is_empty.ensures c.if-is_empty.false))
           (Prints-stop _ _ _ (things_text c.args.pen.now ts) _ _ c.in_err-put.ensures c.from_residual.ensures.0);
       same = refl;
     }
@@ -19,7 +20,8 @@ pub returns-in_ok-put : goal.returns-in_ok-put
 returns-in_ok-put g c =
     let ts = c.args.stores.now in
     record {
-      prints = same_text _ _ _ _ _ (stores-some c.args.pen.now ts (not-empty ts c.is_empty.result c.is_empty.ensures c.if-is_empty.false))
+      prints = same_text _ _ _ _ _
+          (stores-some c.args.pen.now ts (not-empty ts c.is_empty.result c.is_empty.ensures c.if-is_empty.false))
           (Prints-then _ _ _ _ _ _ _ c.in_ok-put.ensures c.put_things.ensures.prints);
       same = c.put_things.ensures.same;
     }

@@ -9,7 +9,8 @@ pub returns-in_err-put : goal.returns-in_err-put
 returns-in_err-put g c =
     let pen = c.args.pen.now in
     record {
-      prints = Prints-stop _ _ _ (site_text pen.text (site_in pen c.args.thing.path c.args.thing.row)) _ _ c.in_err-put.ensures c.from_residual.ensures.0;
+      prints = Prints-stop _ _ _ (site_text pen.text (site_in pen c.args.thing.path c.args.thing.row)) _ _
+          c.in_err-put.ensures c.from_residual.ensures.0;
       same = refl;
     }
 

@@ -11,7 +11,8 @@ returns-in_err-put_thing g c =
     let prints = rw c.loop-thing.invariant.same at c.in_err-put_thing.ensures.prints in
     record {
       prints = Prints-more_stop (thing_text c.args.pen.now) c.args.things.now c.loop-thing.thing-index _ _ _ _ _ _ _
-          (slice_get-get_or c.args.things.now c.loop-thing.thing-index _ c.loop-thing-test.true) c.loop-thing.invariant.printed prints c.from_residual.ensures.0;
+          (slice_get-get_or c.args.things.now c.loop-thing.thing-index _ c.loop-thing-test.true)
+          c.loop-thing.invariant.printed prints c.from_residual.ensures.0;
       same = c.in_err-put_thing.ensures.same ∙ c.loop-thing.invariant.same;
     }
 
@@ -20,12 +21,15 @@ loop-thing-preserved g c =
     let prints = rw c.loop-thing.invariant.same at c.in_ok-put_thing.ensures.prints in
     record {
       printed = Prints-more (thing_text c.args.pen.now) c.args.things.now c.loop-thing.thing-index _ _ _ _ _ _
-          (slice_get-get_or c.args.things.now c.loop-thing.thing-index _ c.loop-thing-test.true) c.loop-thing.invariant.printed prints;
+          (slice_get-get_or c.args.things.now c.loop-thing.thing-index _ c.loop-thing-test.true)
+          c.loop-thing.invariant.printed prints;
       same = c.in_ok-put_thing.ensures.same ∙ c.loop-thing.invariant.same;
     }
 
 pub returns : goal.returns
 returns g c = record {
-  prints = same_text _ _ _ _ _ (all-of (thing_text c.args.pen.now) c.args.things.now c.loop-thing.thing-index c.loop-thing-test.false) c.loop-thing.invariant.printed;
+  prints = same_text _ _ _ _ _
+      (all-of (thing_text c.args.pen.now) c.args.things.now c.loop-thing.thing-index c.loop-thing-test.false)
+      c.loop-thing.invariant.printed;
   same = c.loop-thing.invariant.same;
 }

@@ -11,7 +11,8 @@ returns-in_err-put_given g c =
     let prints = rw c.loop-value.invariant.same at c.in_err-put_given.ensures.prints in
     record {
       prints = Prints-more_stop (given_text c.args.pen.now) c.args.values.now c.loop-value.value-index _ _ _ _ _ _ _
-          (slice_get-get_or c.args.values.now c.loop-value.value-index _ c.loop-value-test.true) c.loop-value.invariant.printed prints c.from_residual.ensures.0;
+          (slice_get-get_or c.args.values.now c.loop-value.value-index _ c.loop-value-test.true)
+          c.loop-value.invariant.printed prints c.from_residual.ensures.0;
       same = c.in_err-put_given.ensures.same ∙ c.loop-value.invariant.same;
     }
 
@@ -20,12 +21,15 @@ loop-value-preserved g c =
     let prints = rw c.loop-value.invariant.same at c.in_ok-put_given.ensures.prints in
     record {
       printed = Prints-more (given_text c.args.pen.now) c.args.values.now c.loop-value.value-index _ _ _ _ _ _
-          (slice_get-get_or c.args.values.now c.loop-value.value-index _ c.loop-value-test.true) c.loop-value.invariant.printed prints;
+          (slice_get-get_or c.args.values.now c.loop-value.value-index _ c.loop-value-test.true)
+          c.loop-value.invariant.printed prints;
       same = c.in_ok-put_given.ensures.same ∙ c.loop-value.invariant.same;
     }
 
 pub returns : goal.returns
 returns g c = record {
-  prints = same_text _ _ _ _ _ (all-of (given_text c.args.pen.now) c.args.values.now c.loop-value.value-index c.loop-value-test.false) c.loop-value.invariant.printed;
+  prints = same_text _ _ _ _ _
+      (all-of (given_text c.args.pen.now) c.args.values.now c.loop-value.value-index c.loop-value-test.false)
+      c.loop-value.invariant.printed;
   same = c.loop-value.invariant.same;
 }

@@ -11,8 +11,10 @@ returns-in_err-put_cells g c =
     let cs = c.args.cells.now in
     let ts = c.args.needs.now in
     record {
-      prints = same_text _ _ _ _ _ (wanted-some c.args.pen.now cs ts (not-empty cs c.is_empty.result c.is_empty.ensures c.if-is_empty.false))
-          (Prints-stop _ _ _ (stores_text c.args.pen.now ts) _ _ c.in_err-put_cells.ensures.prints c.from_residual.ensures.0);
+      prints = same_text _ _ _ _ _
+          (wanted-some c.args.pen.now cs ts (not-empty cs c.is_empty.result c.is_empty.ensures c.if-is_empty.false))
+          (Prints-stop _ _ _ (stores_text c.args.pen.now ts) _ _ c.in_err-put_cells.ensures.prints
+          c.from_residual.ensures.0);
       same = c.in_err-put_cells.ensures.same;
     }
 
@@ -21,7 +23,9 @@ returns-in_ok-put_cells g c =
     let cs = c.args.cells.now in
     let ts = c.args.needs.now in
     record {
-      prints = same_text _ _ _ _ _ (wanted-some c.args.pen.now cs ts (not-empty cs c.is_empty.result c.is_empty.ensures c.if-is_empty.false))
-          (Prints-then _ _ _ _ _ _ _ c.in_ok-put_cells.ensures.prints (rw c.in_ok-put_cells.ensures.same at c.put_stores.ensures.prints));
+      prints = same_text _ _ _ _ _
+          (wanted-some c.args.pen.now cs ts (not-empty cs c.is_empty.result c.is_empty.ensures c.if-is_empty.false))
+          (Prints-then _ _ _ _ _ _ _ c.in_ok-put_cells.ensures.prints
+          (rw c.in_ok-put_cells.ensures.same at c.put_stores.ensures.prints));
       same = c.put_stores.ensures.same ∙ c.in_ok-put_cells.ensures.same;
     }

@@ -4,11 +4,14 @@ use Rattle.id_sink.proofs.SinkLemmas.{Prints-stop, Prints-then}
 use Rattle.id_print.proofs.reports.put_fault_head.Goals as goal
 
 pub returns-in_err-put : goal.returns-in_err-put
-returns-in_err-put g c = Prints-stop _ _ _ (kind_text c.args.kind ++ codes " at ") _ _ c.in_err-put.ensures c.from_residual.ensures.0
+returns-in_err-put g c =
+    Prints-stop _ _ _ (kind_text c.args.kind ++ codes " at ") _ _ c.in_err-put.ensures c.from_residual.ensures.0
 
 pub returns-in_err-put_kind : goal.returns-in_err-put_kind
 returns-in_err-put_kind g c =
-    Prints-then _ _ _ _ _ _ _ c.in_ok-put.ensures (Prints-stop _ _ _ (codes " at ") _ _ c.in_err-put_kind.ensures c.from_residual-in_err-put_kind.ensures.0)
+    Prints-then _ _ _ _ _ _ _ c.in_ok-put.ensures
+    (Prints-stop _ _ _ (codes " at ") _ _ c.in_err-put_kind.ensures c.from_residual-in_err-put_kind.ensures.0)
 
 pub returns : goal.returns
-returns g c = Prints-then _ _ _ _ _ _ _ c.in_ok-put.ensures (Prints-then _ _ _ _ _ _ _ c.in_ok-put_kind.ensures c.put-2.ensures)
+returns g c =
+    Prints-then _ _ _ _ _ _ _ c.in_ok-put.ensures (Prints-then _ _ _ _ _ _ _ c.in_ok-put_kind.ensures c.put-2.ensures)

@@ -29,11 +29,13 @@ behind_first-cells-requires g c = has_cell _ _ (sym c.is_cell_first.ensures ∙ 
 
 pub bounds-shapes-0 : goal.bounds-shapes-0
 bounds-shapes-0 g c =
-    has_array _ c.loop-shapes.cells.now (c.has_lines.ensures.0 c.loop-shapes-test.true) (sym c.is_cell_first.ensures ∙ c.if-is_cell_first.false)
+    has_array _ c.loop-shapes.cells.now (c.has_lines.ensures.0 c.loop-shapes-test.true) (sym c.is_cell_first.ensures
+    ∙ c.if-is_cell_first.false)
 
 pub behind_first-shapes-requires : goal.behind_first-shapes-requires
 behind_first-shapes-requires g c =
-    has_array _ c.loop-shapes.cells.now (c.has_lines.ensures.0 c.loop-shapes-test.true) (sym c.is_cell_first.ensures ∙ c.if-is_cell_first.false)
+    has_array _ c.loop-shapes.cells.now (c.has_lines.ensures.0 c.loop-shapes-test.true) (sym c.is_cell_first.ensures
+    ∙ c.if-is_cell_first.false)
 
 pub returns-in_err-put_present : goal.returns-in_err-put_present
 returns-in_err-put_present g c =
@@ -42,8 +44,10 @@ returns-in_err-put_present g c =
     let x = c.index-cells-0.result in
     let first = first_cell ss cs x (sym c.is_cell_first.ensures ∙ c.if-is_cell_first.true) (sym c.index-cells-0.is) in
     record {
-      prints = Partly-stop _ _ _ c.args.cursor.now _ _ (joined ss (drop 1 cs)) (Cell x) _ _ c.loop-shapes.invariant.partly first
-          (Prints-held_at _ c.args.cursor.now (Cell x) _ _ _ c.loop-shapes.invariant.same c.in_err-put_present.ensures.prints) c.from_residual.ensures.0;
+      prints = Partly-stop _ _ _ c.args.cursor.now _ _ (joined ss (drop 1 cs)) (Cell x) _ _
+          c.loop-shapes.invariant.partly first
+          (Prints-held_at _ c.args.cursor.now (Cell x) _ _ _ c.loop-shapes.invariant.same
+          c.in_err-put_present.ensures.prints) c.from_residual.ensures.0;
       same = c.in_err-put_present.ensures.same ∙ c.loop-shapes.invariant.same;
     }
 
@@ -56,7 +60,8 @@ loop-shapes-preserved-then-is_cell_first g c =
     ap (λ l. Cell x ∷ joined ss l) (sym c.behind_first-cells.ensures) in
     record {
       partly = Partly-more _ _ _ c.args.cursor.now _ _ _ (Cell x) _ c.loop-shapes.invariant.partly first
-          (Prints-held_at _ c.args.cursor.now (Cell x) _ _ _ c.loop-shapes.invariant.same c.in_ok-put_present.ensures.prints);
+          (Prints-held_at _ c.args.cursor.now (Cell x) _ _ _ c.loop-shapes.invariant.same
+          c.in_ok-put_present.ensures.prints);
       same = c.in_ok-put_present.ensures.same ∙ c.loop-shapes.invariant.same;
     }
 
@@ -66,10 +71,14 @@ returns-in_err-put_array g c =
     let cs = c.loop-shapes.cells.now in
     let x = c.index-shapes-0.result in
     let no_cell = sym c.is_cell_first.ensures ∙ c.if-is_cell_first.false in
-    let first = first_array ss cs x (has_array ss cs (c.has_lines.ensures.0 c.loop-shapes-test.true) no_cell) no_cell (sym c.index-shapes-0.is) in
+    let first =
+    first_array ss cs x (has_array ss cs (c.has_lines.ensures.0 c.loop-shapes-test.true) no_cell) no_cell
+    (sym c.index-shapes-0.is) in
     record {
-      prints = Partly-stop _ _ _ c.args.cursor.now _ _ (joined (drop 1 ss) cs) (Array x) _ _ c.loop-shapes.invariant.partly first
-          (Prints-held_at _ c.args.cursor.now (Array x) _ _ _ c.loop-shapes.invariant.same c.in_err-put_array.ensures.prints)
+      prints = Partly-stop _ _ _ c.args.cursor.now _ _ (joined (drop 1 ss) cs) (Array x) _ _
+          c.loop-shapes.invariant.partly first
+          (Prints-held_at _ c.args.cursor.now (Array x) _ _ _ c.loop-shapes.invariant.same
+          c.in_err-put_array.ensures.prints)
           c.from_residual-in_err-put_array.ensures.0;
       same = c.in_err-put_array.ensures.same ∙ c.loop-shapes.invariant.same;
     }
@@ -80,10 +89,13 @@ loop-shapes-preserved g c =
     let cs = c.loop-shapes.cells.now in
     let x = c.index-shapes-0.result in
     let no_cell = sym c.is_cell_first.ensures ∙ c.if-is_cell_first.false in
-    let first = first_array ss cs x (has_array ss cs (c.has_lines.ensures.0 c.loop-shapes-test.true) no_cell) no_cell (sym c.index-shapes-0.is) ∙
+    let first =
+    first_array ss cs x (has_array ss cs (c.has_lines.ensures.0 c.loop-shapes-test.true) no_cell) no_cell
+    (sym c.index-shapes-0.is) ∙
     ap (λ l. Array x ∷ joined l cs) (sym c.behind_first-shapes.ensures) in
     record {
       partly = Partly-more _ _ _ c.args.cursor.now _ _ _ (Array x) _ c.loop-shapes.invariant.partly first
-          (Prints-held_at _ c.args.cursor.now (Array x) _ _ _ c.loop-shapes.invariant.same c.in_ok-put_array.ensures.prints);
+          (Prints-held_at _ c.args.cursor.now (Array x) _ _ _ c.loop-shapes.invariant.same
+          c.in_ok-put_array.ensures.prints);
       same = c.in_ok-put_array.ensures.same ∙ c.loop-shapes.invariant.same;
     }

@@ -6,7 +6,8 @@ use Rattle.id_print.proofs.reports.put_joined.Given as goal
 
 abbrev pub invariant-loop-shapes : goal.invariant-loop-shapes
 invariant-loop-shapes g l = record {
-  partly : IsPartly (g.W.Sink.told l.initial.sink) (g.W.Sink.told l.sink) l.initial.cursor (joined l.initial.shapes l.initial.cells) (joined l.shapes l.cells);
+  partly : IsPartly (g.W.Sink.told l.initial.sink) (g.W.Sink.told l.sink) l.initial.cursor
+      (joined l.initial.shapes l.initial.cells) (joined l.shapes l.cells);
   same : l.cursor ≡ l.initial.cursor;
 }
 

@@ -5,7 +5,9 @@ use Rattle.id_print.proofs.reports.put_name.Goals as goal
 
 pub returns-in_err-put : goal.returns-in_err-put
 returns-in_err-put g c = record {
-  prints = Prints-stop _ _ _ (point_value_text c.args.cursor.now c.args.name.now.path c.args.name.now.place c.args.name.now.value) _ _ c.in_err-put.ensures
+  prints = Prints-stop _ _ _
+      (point_value_text c.args.cursor.now c.args.name.now.path c.args.name.now.place c.args.name.now.value) _ _
+      c.in_err-put.ensures
       c.from_residual.ensures.0;
   same = refl;
 }

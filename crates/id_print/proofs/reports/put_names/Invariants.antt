@@ -6,6 +6,7 @@ use Rattle.id_print.proofs.reports.put_names.Given as goal
 -- the lines of the names so far are printed
 abbrev pub invariant-loop-name : goal.invariant-loop-name
 invariant-loop-name g l = record {
-  printed : Prints (g.W.Sink.told l.initial.sink) (g.W.Sink.told l.sink) (names_text l.initial.cursor (take l.name-index l.names)) (Ok tt);
+  printed : Prints (g.W.Sink.told l.initial.sink) (g.W.Sink.told l.sink)
+      (names_text l.initial.cursor (take l.name-index l.names)) (Ok tt);
   same : l.cursor ≡ l.initial.cursor;
 }

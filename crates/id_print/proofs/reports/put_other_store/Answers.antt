@@ -5,7 +5,8 @@ use Rattle.id_print.proofs.reports.put_other_store.Goals as goal
 
 pub returns-in_err-put : goal.returns-in_err-put
 returns-in_err-put g c = record {
-  prints = Prints-stop _ _ _ (site_text c.args.cursor.now c.args.store.now ++ codes "\n") _ _ c.in_err-put.ensures c.from_residual.ensures.0;
+  prints = Prints-stop _ _ _ (site_text c.args.cursor.now c.args.store.now ++ codes "\n") _ _ c.in_err-put.ensures
+      c.from_residual.ensures.0;
   same = refl;
 }
 
@@ -18,6 +19,7 @@ returns-in_err-put_site g c = record {
 
 pub returns : goal.returns
 returns g c = record {
-  prints = Prints-then _ _ _ _ _ _ _ c.in_ok-put.ensures (Prints-then _ _ _ _ _ _ _ c.in_ok-put_site.ensures.prints c.put-2.ensures);
+  prints = Prints-then _ _ _ _ _ _ _ c.in_ok-put.ensures
+      (Prints-then _ _ _ _ _ _ _ c.in_ok-put_site.ensures.prints c.put-2.ensures);
   same = c.in_ok-put_site.ensures.same;
 }

@@ -8,7 +8,9 @@ use Rattle.id_print.proofs.reports.put_present.Goals as goal
 
 pub returns-in_err-put : goal.returns-in_err-put
 returns-in_err-put g c = record {
-  prints = Prints-stop _ _ _ (filled_text c.args.cursor.now c.args.cell.now.name c.args.cell.now.index c.args.cell.now.value ++ codes "\n") _ _ c.in_err-put.ensures
+  prints = Prints-stop _ _ _
+      (filled_text c.args.cursor.now c.args.cell.now.name c.args.cell.now.index c.args.cell.now.value ++ codes "\n") _ _
+      c.in_err-put.ensures
       c.from_residual.ensures.0;
   same = refl;
 }
@@ -17,8 +19,10 @@ pub returns-in_err-put_site : goal.returns-in_err-put_site
 returns-in_err-put_site g c =
     let cell = c.args.cell.now in
     record {
-      prints = same_text _ _ _ _ _ (ap (λ t. codes "cell " ++ t) (sym (filled_text-content c.args.cursor.now cell.name cell.index cell.value)))
-          (Prints-then _ _ _ _ _ _ _ c.in_ok-put.ensures (Prints-stop _ _ _ (content_text c.args.cursor.now cell.index cell.value) _ _
+      prints = same_text _ _ _ _ _
+          (ap (λ t. codes "cell " ++ t) (sym (filled_text-content c.args.cursor.now cell.name cell.index cell.value)))
+          (Prints-then _ _ _ _ _ _ _ c.in_ok-put.ensures
+          (Prints-stop _ _ _ (content_text c.args.cursor.now cell.index cell.value) _ _
           c.in_err-put_site.ensures.prints c.from_residual-in_err-put_site.ensures.0));
       same = c.in_err-put_site.ensures.same;
     }
@@ -28,7 +32,8 @@ returns g c =
     let cell = c.args.cell.now in
     let index_fits : SFits w64 cell.index = search rules in
     record {
-      prints = same_text _ _ _ _ _ (ap (λ t. codes "cell " ++ t) (sym (filled_text-content c.args.cursor.now cell.name cell.index cell.value)))
+      prints = same_text _ _ _ _ _
+          (ap (λ t. codes "cell " ++ t) (sym (filled_text-content c.args.cursor.now cell.name cell.index cell.value)))
           (Prints-then _ _ _ _ _ _ _ c.in_ok-put.ensures (Prints-then _ _ _ _ _ _ _ c.in_ok-put_site.ensures.prints
           (Prints-content_at _ c.args.cursor.now cell.index cell.value _ _ _ c.in_ok-put_site.ensures.same
           (rw (to_z-of_z w64 cell.index index_fits) at c.put_content.ensures.prints))));

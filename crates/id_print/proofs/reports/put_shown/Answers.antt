@@ -5,7 +5,8 @@ use Rattle.id_print.proofs.reports.put_shown.Goals as goal
 
 pub returns-in_err-put_answer : goal.returns-in_err-put_answer
 returns-in_err-put_answer g c = record {
-  prints = Prints-stop _ _ _ (names_text c.args.cursor.now c.args.names.now ++ helds_text c.args.cursor.now c.args.report.now.structures) _ _
+  prints = Prints-stop _ _ _ (names_text c.args.cursor.now c.args.names.now
+      ++ helds_text c.args.cursor.now c.args.report.now.structures) _ _
       c.in_err-put_answer.ensures.prints c.from_residual.ensures.0;
   same = c.in_err-put_answer.ensures.same;
 }
@@ -14,7 +15,8 @@ pub returns-in_err-put_names : goal.returns-in_err-put_names
 returns-in_err-put_names g c = record {
   prints = Prints-then _ _ _ _ _ _ _ c.in_ok-put_answer.ensures.prints
       (Prints-stop _ _ _ (helds_text c.args.cursor.now c.args.report.now.structures) _ _
-      (rw c.in_ok-put_answer.ensures.same at c.in_err-put_names.ensures.prints) c.from_residual-in_err-put_names.ensures.0);
+      (rw c.in_ok-put_answer.ensures.same at c.in_err-put_names.ensures.prints)
+      c.from_residual-in_err-put_names.ensures.0);
   same = c.in_err-put_names.ensures.same ∙ c.in_ok-put_answer.ensures.same;
 }
 

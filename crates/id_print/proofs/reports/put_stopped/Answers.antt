@@ -5,7 +5,9 @@ use Rattle.id_print.proofs.reports.put_stopped.Goals as goal
 
 pub returns-in_err-put : goal.returns-in_err-put
 returns-in_err-put g c = record {
-  prints = Prints-stop _ _ _ (shown_text c.args.cursor.now c.args.report.now.answer c.args.names.now c.args.report.now.structures) _ _ c.in_err-put.ensures
+  prints = Prints-stop _ _ _
+      (shown_text c.args.cursor.now c.args.report.now.answer c.args.names.now c.args.report.now.structures) _ _
+      c.in_err-put.ensures
       c.from_residual.ensures.0;
   same = refl;
 }

@@ -10,7 +10,8 @@ returns-in_err-put_waiting g c =
     let at = slice_get_read asks _ c.loop-ask.ask-index c.ask-item.result refl c.loop-ask-test.true c.ask-item.is in
     let prints = rw c.loop-ask.invariant.same at c.in_err-put_waiting.ensures.prints in
     record {
-      prints = Prints-more_stop (waiting_text c.args.cursor.now) asks c.loop-ask.ask-index _ _ _ _ _ _ _ at c.loop-ask.invariant.printed prints c.from_residual.ensures.0;
+      prints = Prints-more_stop (waiting_text c.args.cursor.now) asks c.loop-ask.ask-index _ _ _ _ _ _ _ at
+          c.loop-ask.invariant.printed prints c.from_residual.ensures.0;
       same = c.in_err-put_waiting.ensures.same ∙ c.loop-ask.invariant.same;
     }
 
@@ -20,6 +21,8 @@ loop-ask-preserved g c =
     let at = slice_get_read asks _ c.loop-ask.ask-index c.ask-item.result refl c.loop-ask-test.true c.ask-item.is in
     let prints = rw c.loop-ask.invariant.same at c.in_ok-put_waiting.ensures.prints in
     record {
-      printed = Prints-more (waiting_text c.args.cursor.now) asks c.loop-ask.ask-index _ _ _ _ _ _ at c.loop-ask.invariant.printed prints;
+      printed =
+          Prints-more (waiting_text c.args.cursor.now) asks c.loop-ask.ask-index _ _ _ _ _ _ at
+          c.loop-ask.invariant.printed prints;
       same = c.in_ok-put_waiting.ensures.same ∙ c.loop-ask.invariant.same;
     }

@@ -10,7 +10,8 @@ returns-in-Quiet g c =
     let P : List ℕ → Type 0 = λ k.
     Prints (g.W.Sink.told c.args.sink.now) (g.W.Sink.told c.put_quiet.new.sink)
     (quiet_text k r.answer (asked c.args.names r.names) r.structures r.waiting) c.put_quiet.result in
-    rw c.in-Quiet.is (subst P c.new-cursor.ensures (rw (c.asked-shown.ensures, c.as_slice.ensures) at c.put_quiet.ensures.prints))
+    rw c.in-Quiet.is
+    (subst P c.new-cursor.ensures (rw (c.asked-shown.ensures, c.as_slice.ensures) at c.put_quiet.ensures.prints))
 
 pub returns-in-Stopped : goal.returns-in-Stopped
 returns-in-Stopped g c =
@@ -18,7 +19,8 @@ returns-in-Stopped g c =
     let P : List ℕ → Type 0 = λ k.
     Prints (g.W.Sink.told c.args.sink.now) (g.W.Sink.told c.put_stopped.new.sink)
     (stopped_text k r.answer (asked c.args.names r.names) r.structures) c.put_stopped.result in
-    rw c.in-Stopped.is (subst P c.new-cursor.ensures (rw (c.asked-shown.ensures, c.as_slice.ensures) at c.put_stopped.ensures.prints))
+    rw c.in-Stopped.is
+    (subst P c.new-cursor.ensures (rw (c.asked-shown.ensures, c.as_slice.ensures) at c.put_stopped.ensures.prints))
 
 pub returns-in-Fault : goal.returns-in-Fault
 returns-in-Fault g c = rw c.in-Fault.is c.write_fault.ensures

@@ -11,7 +11,8 @@ returns-in_err-put g c =
     let pen = c.args.pen.now in
     record {
       prints = Prints-stop _ _ _ (site_text pen.text (site_in pen c.args.path c.args.row)
-          ++ (codes " of " ++ (cell_text pen.text (name_in pen c.args.name) c.args.index ++ codes "\n"))) _ _ c.in_err-put.ensures c.from_residual.ensures.0;
+          ++ (codes " of " ++ (cell_text pen.text (name_in pen c.args.name) c.args.index ++ codes "\n"))) _ _
+          c.in_err-put.ensures c.from_residual.ensures.0;
       same = refl;
     }
 
@@ -20,7 +21,8 @@ returns-in_err-put_site g c =
     let pen = c.args.pen.now in
     record {
       prints = Prints-then _ _ _ _ _ _ _ c.in_ok-put.ensures
-          (Prints-stop _ _ _ (codes " of " ++ (cell_text pen.text (name_in pen c.args.name) c.args.index ++ codes "\n")) _ _ c.in_err-put_site.ensures.prints
+          (Prints-stop _ _ _ (codes " of " ++ (cell_text pen.text (name_in pen c.args.name) c.args.index ++ codes "\n"))
+          _ _ c.in_err-put_site.ensures.prints
           c.from_residual-in_err-put_site.ensures.0);
       same = c.in_err-put_site.ensures.same;
     }
@@ -30,6 +32,7 @@ returns g c =
     let index_fits : SFits w64 c.args.index = search rules in
     record {
       prints = Prints-then _ _ _ _ _ _ _ c.in_ok-put.ensures (Prints-then _ _ _ _ _ _ _ c.in_ok-put_site.ensures.prints
-          (rw (to_z-of_z w64 c.args.index index_fits) at (rw c.in_ok-put_site.ensures.same at c.put_asked_cell.ensures.prints)));
+          (rw (to_z-of_z w64 c.args.index index_fits) at
+          (rw c.in_ok-put_site.ensures.same at c.put_asked_cell.ensures.prints)));
       same = c.put_asked_cell.ensures.same ∙ c.in_ok-put_site.ensures.same;
     }

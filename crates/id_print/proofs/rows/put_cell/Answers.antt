@@ -7,7 +7,8 @@ use Rattle.id_print.proofs.rows.put_cell.Goals as goal
 
 pub returns-in_err-put_name : goal.returns-in_err-put_name
 returns-in_err-put_name g c = record {
-  prints = Prints-stop _ _ _ (codes "[" ++ (signed_decimal c.args.index ++ codes "]")) _ _ c.in_err-put_name.ensures.prints c.from_residual.ensures.0;
+  prints = Prints-stop _ _ _ (codes "[" ++ (signed_decimal c.args.index ++ codes "]")) _ _
+      c.in_err-put_name.ensures.prints c.from_residual.ensures.0;
   same = c.in_err-put_name.ensures.same;
 }
 
@@ -15,6 +16,7 @@ pub returns : goal.returns
 returns g c =
     let index_fits : SFits w64 c.args.index = search rules in
     record {
-      prints = Prints-then _ _ _ _ _ _ _ c.in_ok-put_name.ensures.prints (rw (to_z-of_z w64 c.args.index index_fits) at c.put_index.ensures);
+      prints = Prints-then _ _ _ _ _ _ _ c.in_ok-put_name.ensures.prints
+          (rw (to_z-of_z w64 c.args.index index_fits) at c.put_index.ensures);
       same = c.in_ok-put_name.ensures.same;
     }

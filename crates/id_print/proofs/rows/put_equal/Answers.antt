@@ -8,7 +8,8 @@ pub returns-in_err-put : goal.returns-in_err-put
 returns-in_err-put g c =
     let pen = c.args.pen.now in
     record {
-      prints = Prints-stop _ _ _ (value_text pen.text (value_in pen c.args.value)) _ _ c.in_err-put.ensures c.from_residual.ensures.0;
+      prints = Prints-stop _ _ _ (value_text pen.text (value_in pen c.args.value)) _ _ c.in_err-put.ensures
+          c.from_residual.ensures.0;
       same = refl;
     }
 

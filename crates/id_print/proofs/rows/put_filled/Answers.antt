@@ -11,7 +11,8 @@ returns-in_err-put_cell g c =
     let pen = c.args.pen.now in
     let index_fits : SFits w64 c.args.index = search rules in
     record {
-      prints = Prints-stop _ _ _ (equal_text pen.text (value_in pen c.args.value)) _ _ (rw (to_z-of_z w64 c.args.index index_fits) at c.in_err-put_cell.ensures.prints)
+      prints = Prints-stop _ _ _ (equal_text pen.text (value_in pen c.args.value)) _ _
+          (rw (to_z-of_z w64 c.args.index index_fits) at c.in_err-put_cell.ensures.prints)
           c.from_residual.ensures.0;
       same = c.in_err-put_cell.ensures.same;
     }

@@ -8,7 +8,8 @@ pub returns-in_err-put : goal.returns-in_err-put
 returns-in_err-put g c =
     let pen = c.args.pen.now in
     record {
-      prints = Prints-stop _ _ _ (site_text pen.text (site_in pen c.args.path c.args.row) ++ codes "\n") _ _ c.in_err-put.ensures c.from_residual.ensures.0;
+      prints = Prints-stop _ _ _ (site_text pen.text (site_in pen c.args.path c.args.row) ++ codes "\n") _ _
+          c.in_err-put.ensures c.from_residual.ensures.0;
       same = refl;
     }
 
@@ -21,6 +22,7 @@ returns-in_err-put_site g c = record {
 
 pub returns : goal.returns
 returns g c = record {
-  prints = Prints-then _ _ _ _ _ _ _ c.in_ok-put.ensures (Prints-then _ _ _ _ _ _ _ c.in_ok-put_site.ensures.prints c.put-2.ensures);
+  prints = Prints-then _ _ _ _ _ _ _ c.in_ok-put.ensures
+      (Prints-then _ _ _ _ _ _ _ c.in_ok-put_site.ensures.prints c.put-2.ensures);
   same = c.in_ok-put_site.ensures.same;
 }

@@ -14,7 +14,9 @@ returns-in-Shape g c =
     let low_fits : SFits w64 c.in-Shape.low = search rules in
     let high_fits : SFits w64 c.in-Shape.high = search rules in
     record {
-      prints = rw c.in-Shape.is (rw (to_z-of_z w64 c.in-Shape.high high_fits) at (rw (to_z-of_z w64 c.in-Shape.low low_fits) at c.put_shape.ensures.prints));
+      prints = rw c.in-Shape.is
+          (rw (to_z-of_z w64 c.in-Shape.high high_fits) at
+          (rw (to_z-of_z w64 c.in-Shape.low low_fits) at c.put_shape.ensures.prints));
       same = c.put_shape.ensures.same;
     }
 

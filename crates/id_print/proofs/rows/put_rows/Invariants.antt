@@ -7,6 +7,7 @@ use Rattle.id_print.proofs.rows.put_rows.Given as goal
 
 abbrev pub invariant-loop-row : goal.invariant-loop-row
 invariant-loop-row g l = record {
-  printed : Prints (g.W.Sink.told l.initial.sink) (g.W.Sink.told l.sink) (flat_map (row_text l.initial.pen) (take l.row-index l.rows)) (Ok tt);
+  printed : Prints (g.W.Sink.told l.initial.sink) (g.W.Sink.told l.sink)
+      (flat_map (row_text l.initial.pen) (take l.row-index l.rows)) (Ok tt);
   same : l.pen ≡ l.initial.pen;
 }

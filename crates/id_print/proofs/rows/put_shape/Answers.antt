@@ -10,7 +10,8 @@ pub returns-in_err-put : goal.returns-in_err-put
 returns-in_err-put g c =
     let pen = c.args.pen.now in
     record {
-      prints = Prints-stop _ _ _ (site_text pen.text (name_in pen c.args.name) ++ (codes " " ++ bounds_text c.args.low c.args.high)) _ _ c.in_err-put.ensures
+      prints = Prints-stop _ _ _ (site_text pen.text (name_in pen c.args.name)
+          ++ (codes " " ++ bounds_text c.args.low c.args.high)) _ _ c.in_err-put.ensures
           c.from_residual.ensures.0;
       same = refl;
     }
@@ -18,14 +19,16 @@ returns-in_err-put g c =
 pub returns-in_err-put_name : goal.returns-in_err-put_name
 returns-in_err-put_name g c = record {
   prints = Prints-then _ _ _ _ _ _ _ c.in_ok-put.ensures
-      (Prints-stop _ _ _ (codes " " ++ bounds_text c.args.low c.args.high) _ _ c.in_err-put_name.ensures.prints c.from_residual-in_err-put_name.ensures.0);
+      (Prints-stop _ _ _ (codes " " ++ bounds_text c.args.low c.args.high) _ _ c.in_err-put_name.ensures.prints
+      c.from_residual-in_err-put_name.ensures.0);
   same = c.in_err-put_name.ensures.same;
 }
 
 pub returns-in_err-put-2 : goal.returns-in_err-put-2
 returns-in_err-put-2 g c = record {
   prints = Prints-then _ _ _ _ _ _ _ c.in_ok-put.ensures (Prints-then _ _ _ _ _ _ _ c.in_ok-put_name.ensures.prints
-      (Prints-stop _ _ _ (bounds_text c.args.low c.args.high) _ _ c.in_err-put-2.ensures c.from_residual-in_err-put-2.ensures.0));
+      (Prints-stop _ _ _ (bounds_text c.args.low c.args.high) _ _ c.in_err-put-2.ensures
+      c.from_residual-in_err-put-2.ensures.0));
   same = c.in_ok-put_name.ensures.same;
 }
 

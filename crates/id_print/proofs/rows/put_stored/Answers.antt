@@ -10,8 +10,10 @@ pub returns-in_err-put : goal.returns-in_err-put
 returns-in_err-put g c =
     let pen = c.args.pen.now in
     record {
-      prints = Prints-stop _ _ _ (filled_text pen.text (name_in pen c.args.name) c.args.index (value_in pen c.args.value)
-          ++ (codes " by " ++ (site_text pen.text (site_in pen c.args.path c.args.row) ++ codes "\n"))) _ _ c.in_err-put.ensures c.from_residual.ensures.0;
+      prints = Prints-stop _ _ _
+          (filled_text pen.text (name_in pen c.args.name) c.args.index (value_in pen c.args.value)
+          ++ (codes " by " ++ (site_text pen.text (site_in pen c.args.path c.args.row) ++ codes "\n"))) _ _
+          c.in_err-put.ensures c.from_residual.ensures.0;
       same = refl;
     }
 
@@ -21,8 +23,10 @@ returns-in_err-put_filled g c =
     let index_fits : SFits w64 c.args.index = search rules in
     record {
       prints = Prints-then _ _ _ _ _ _ _ c.in_ok-put.ensures
-          (Prints-stop _ _ _ (codes " by " ++ (site_text pen.text (site_in pen c.args.path c.args.row) ++ codes "\n")) _ _
-          (rw (to_z-of_z w64 c.args.index index_fits) at c.in_err-put_filled.ensures.prints) c.from_residual-in_err-put_filled.ensures.0);
+          (Prints-stop _ _ _ (codes " by " ++ (site_text pen.text (site_in pen c.args.path c.args.row) ++ codes "\n")) _
+          _
+          (rw (to_z-of_z w64 c.args.index index_fits) at c.in_err-put_filled.ensures.prints)
+          c.from_residual-in_err-put_filled.ensures.0);
       same = c.in_err-put_filled.ensures.same;
     }
 

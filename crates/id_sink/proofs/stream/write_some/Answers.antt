@@ -7,5 +7,7 @@ loop-cuts-init g c = (AreCut-start _, Keeps-refl _)
 
 -- a write that was cut short is one more
 pub loop-cuts-preserved : goal.loop-cuts-preserved
-loop-cuts-preserved g c =
-    (AreCut-more _ _ _ _ _ c.loop-cuts.invariant.0 c.in-None.ensures.outlook, Keeps-trans _ _ _ c.loop-cuts.invariant.1 c.in-None.ensures.bytes)
+loop-cuts-preserved g c = (
+  AreCut-more _ _ _ _ _ c.loop-cuts.invariant.0 c.in-None.ensures.outlook,
+  Keeps-trans _ _ _ c.loop-cuts.invariant.1 c.in-None.ensures.bytes,
+)

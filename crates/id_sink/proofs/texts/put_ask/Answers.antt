@@ -7,7 +7,8 @@ use Rattle.id_sink.proofs.texts.put_ask.Goals as goal
 
 pub returns-in_err-put_site : goal.returns-in_err-put_site
 returns-in_err-put_site g c = record {
-  prints = Prints-stop _ _ _ (codes " of " ++ (cell_text c.args.cursor.now c.args.ask.now.name c.args.ask.now.index ++ codes "\n")) _ _
+  prints = Prints-stop _ _ _
+      (codes " of " ++ (cell_text c.args.cursor.now c.args.ask.now.name c.args.ask.now.index ++ codes "\n")) _ _
       c.in_err-put_site.ensures.prints c.from_residual.ensures.0;
   same = c.in_err-put_site.ensures.same;
 }
@@ -17,6 +18,7 @@ returns g c =
     let index_fits : SFits w64 c.args.ask.now.index = search rules in
     record {
       prints = Prints-then _ _ _ _ _ _ _ c.in_ok-put_site.ensures.prints
-          (rw (to_z-of_z w64 c.args.ask.now.index index_fits) at (rw c.in_ok-put_site.ensures.same at c.put_asked_cell.ensures.prints));
+          (rw (to_z-of_z w64 c.args.ask.now.index index_fits) at
+          (rw c.in_ok-put_site.ensures.same at c.put_asked_cell.ensures.prints));
       same = c.put_asked_cell.ensures.same ∙ c.in_ok-put_site.ensures.same;
     }

@@ -5,7 +5,8 @@ use Rattle.id_sink.proofs.texts.put_equal.Goals as goal
 
 pub returns-in_err-put : goal.returns-in_err-put
 returns-in_err-put g c = record {
-  prints = Prints-stop _ _ _ (value_text c.args.cursor.now c.args.value.now) _ _ c.in_err-put.ensures c.from_residual.ensures.0;
+  prints = Prints-stop _ _ _ (value_text c.args.cursor.now c.args.value.now) _ _ c.in_err-put.ensures
+      c.from_residual.ensures.0;
   same = refl;
 }
 

@@ -9,7 +9,8 @@ pub returns-in_err-put_cell : goal.returns-in_err-put_cell
 returns-in_err-put_cell g c =
     let index_fits : SFits w64 c.args.index = search rules in
     record {
-      prints = Prints-stop _ _ _ (equal_text c.args.cursor.now c.args.value.now) _ _ (rw (to_z-of_z w64 c.args.index index_fits) at c.in_err-put_cell.ensures.prints)
+      prints = Prints-stop _ _ _ (equal_text c.args.cursor.now c.args.value.now) _ _
+          (rw (to_z-of_z w64 c.args.index index_fits) at c.in_err-put_cell.ensures.prints)
           c.from_residual.ensures.0;
       same = c.in_err-put_cell.ensures.same;
     }

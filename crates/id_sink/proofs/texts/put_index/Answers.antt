@@ -12,11 +12,13 @@ returns-in_err-put g c =
 pub returns-in_err-put_int : goal.returns-in_err-put_int
 returns-in_err-put_int g c =
     let index_fits : SFits w64 c.args.index = search rules in
-    Prints-then _ _ _ _ _ _ _ c.in_ok-put.ensures (Prints-stop _ _ _ (codes "]") _ _ (rw (to_z-of_z w64 c.args.index index_fits) at c.in_err-put_int.ensures)
+    Prints-then _ _ _ _ _ _ _ c.in_ok-put.ensures
+    (Prints-stop _ _ _ (codes "]") _ _ (rw (to_z-of_z w64 c.args.index index_fits) at c.in_err-put_int.ensures)
     c.from_residual-in_err-put_int.ensures.0)
 
 pub returns : goal.returns
 returns g c =
     let index_fits : SFits w64 c.args.index = search rules in
-    Prints-then _ _ _ _ _ _ _ c.in_ok-put.ensures (Prints-then _ _ _ _ _ _ _ (rw (to_z-of_z w64 c.args.index index_fits) at c.in_ok-put_int.ensures)
+    Prints-then _ _ _ _ _ _ _ c.in_ok-put.ensures
+    (Prints-then _ _ _ _ _ _ _ (rw (to_z-of_z w64 c.args.index index_fits) at c.in_ok-put_int.ensures)
     c.put-2.ensures)

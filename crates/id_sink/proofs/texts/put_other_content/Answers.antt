@@ -19,7 +19,8 @@ returns-in_err-put_equal g c =
     let index_fits : SFits w64 c.args.index = search rules in
     record {
       prints = Prints-then _ _ _ _ _ _ _ (rw (to_z-of_z w64 c.args.index index_fits) at c.in_ok-put_index.ensures)
-          (Prints-stop _ _ _ (codes "\n") _ _ c.in_err-put_equal.ensures.prints c.from_residual-in_err-put_equal.ensures.0);
+          (Prints-stop _ _ _ (codes "\n") _ _ c.in_err-put_equal.ensures.prints
+          c.from_residual-in_err-put_equal.ensures.0);
       same = c.in_err-put_equal.ensures.same;
     }
 

@@ -5,7 +5,8 @@ use Rattle.id_sink.proofs.texts.put_point.Goals as goal
 
 pub returns-in_err-put_steps : goal.returns-in_err-put_steps
 returns-in_err-put_steps g c = record {
-  prints = rw c.as_slice.ensures at (Prints-stop _ _ _ (codes "@" ++ place_text c.args.cursor.now c.args.place) _ _ c.in_err-put_steps.ensures.prints
+  prints = rw c.as_slice.ensures at
+      (Prints-stop _ _ _ (codes "@" ++ place_text c.args.cursor.now c.args.place) _ _ c.in_err-put_steps.ensures.prints
       c.from_residual.ensures.0);
   same = c.in_err-put_steps.ensures.same;
 }

@@ -5,14 +5,16 @@ use Rattle.id_sink.proofs.texts.put_point_value.Goals as goal
 
 pub returns-in_err-put_point : goal.returns-in_err-put_point
 returns-in_err-put_point g c = record {
-  prints = Prints-stop _ _ _ (equal_text c.args.cursor.now c.args.value.now ++ codes "\n") _ _ c.in_err-put_point.ensures.prints c.from_residual.ensures.0;
+  prints = Prints-stop _ _ _ (equal_text c.args.cursor.now c.args.value.now ++ codes "\n") _ _
+      c.in_err-put_point.ensures.prints c.from_residual.ensures.0;
   same = c.in_err-put_point.ensures.same;
 }
 
 pub returns-in_err-put_equal : goal.returns-in_err-put_equal
 returns-in_err-put_equal g c = record {
   prints = Prints-then _ _ _ _ _ _ _ c.in_ok-put_point.ensures.prints
-      (Prints-stop _ _ _ (codes "\n") _ _ (rw c.in_ok-put_point.ensures.same at c.in_err-put_equal.ensures.prints) c.from_residual-in_err-put_equal.ensures.0);
+      (Prints-stop _ _ _ (codes "\n") _ _ (rw c.in_ok-put_point.ensures.same at c.in_err-put_equal.ensures.prints)
+      c.from_residual-in_err-put_equal.ensures.0);
   same = c.in_err-put_equal.ensures.same ∙ c.in_ok-put_point.ensures.same;
 }
 

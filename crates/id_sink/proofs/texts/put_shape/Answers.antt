@@ -7,14 +7,16 @@ use Rattle.id_sink.proofs.texts.put_shape.Goals as goal
 
 pub returns-in_err-put_site : goal.returns-in_err-put_site
 returns-in_err-put_site g c = record {
-  prints = Prints-stop _ _ _ (codes " " ++ bounds_text c.args.shape.now.low c.args.shape.now.high) _ _ c.in_err-put_site.ensures.prints c.from_residual.ensures.0;
+  prints = Prints-stop _ _ _ (codes " " ++ bounds_text c.args.shape.now.low c.args.shape.now.high) _ _
+      c.in_err-put_site.ensures.prints c.from_residual.ensures.0;
   same = c.in_err-put_site.ensures.same;
 }
 
 pub returns-in_err-put : goal.returns-in_err-put
 returns-in_err-put g c = record {
   prints = Prints-then _ _ _ _ _ _ _ c.in_ok-put_site.ensures.prints
-      (Prints-stop _ _ _ (bounds_text c.args.shape.now.low c.args.shape.now.high) _ _ c.in_err-put.ensures c.from_residual-in_err-put.ensures.0);
+      (Prints-stop _ _ _ (bounds_text c.args.shape.now.low c.args.shape.now.high) _ _ c.in_err-put.ensures
+      c.from_residual-in_err-put.ensures.0);
   same = c.in_ok-put_site.ensures.same;
 }
 

@@ -9,7 +9,8 @@ returns-in_err-put_step g c =
     let prints = rw c.loop-step.invariant.same at c.in_err-put_step.ensures.prints in
     record {
       prints = Prints-more_stop (step_text c.args.cursor.now) c.args.steps.now c.loop-step.step-index _ _ _ _ _ _ _
-          (slice_get-get_or c.args.steps.now c.loop-step.step-index _ c.loop-step-test.true) c.loop-step.invariant.printed prints c.from_residual.ensures.0;
+          (slice_get-get_or c.args.steps.now c.loop-step.step-index _ c.loop-step-test.true)
+          c.loop-step.invariant.printed prints c.from_residual.ensures.0;
       same = c.in_err-put_step.ensures.same ∙ c.loop-step.invariant.same;
     }
 
@@ -18,6 +19,7 @@ loop-step-preserved g c =
     let prints = rw c.loop-step.invariant.same at c.in_ok-put_step.ensures.prints in
     record {
       printed = Prints-more (step_text c.args.cursor.now) c.args.steps.now c.loop-step.step-index _ _ _ _ _ _
-          (slice_get-get_or c.args.steps.now c.loop-step.step-index _ c.loop-step-test.true) c.loop-step.invariant.printed prints;
+          (slice_get-get_or c.args.steps.now c.loop-step.step-index _ c.loop-step-test.true)
+          c.loop-step.invariant.printed prints;
       same = c.in_ok-put_step.ensures.same ∙ c.loop-step.invariant.same;
     }

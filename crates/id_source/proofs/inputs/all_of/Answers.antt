@@ -15,11 +15,14 @@ pub returns-in-None-clause-same : goal.returns-in-None-clause-same
 returns-in-None-clause-same c = tt
 
 pub returns-in-None-clause-lack : goal.returns-in-None-clause-lack
-returns-in-None-clause-lack c =
-    (slice_get_read c.args.values.now _ c.loop-n.n None refl c.loop-n-test.true (sym c.in-None.is), c.loop-n.invariant.there)
+returns-in-None-clause-lack c = (
+  slice_get_read c.args.values.now _ c.loop-n.n None refl c.loop-n-test.true (sym c.in-None.is),
+  c.loop-n.invariant.there,
+)
 
 pub returns-in_err-push-in-Some-clause-same : goal.returns-in_err-push-in-Some-clause-same
-returns-in_err-push-in-Some-clause-same c = if_err _ c.from_residual-in_err-push-in-Some.result c.from_residual-in_err-push-in-Some.ensures.0
+returns-in_err-push-in-Some-clause-same c =
+    if_err _ c.from_residual-in_err-push-in-Some.result c.from_residual-in_err-push-in-Some.ensures.0
 
 pub loop-n-preserved : goal.loop-n-preserved
 loop-n-preserved c = grind (arith, common_steps)

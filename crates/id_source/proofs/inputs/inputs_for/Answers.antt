@@ -17,7 +17,8 @@ returns-in_err-values-clause-refused c = grind (arith, common_steps)
 pub returns-clause-given : goal.returns-clause-given
 returns-clause-given c =
     IfOk-weaker c.all_of.result _ _
-    (λ v same. said-given c.args.params.now (map (λ w. w.now) c.args.words.now) c.in_ok-values.values.items c.as_slice.result.now v.items
+    (λ v same. said-given c.args.params.now (map (λ w. w.now) c.args.words.now) c.in_ok-values.values.items
+    c.as_slice.result.now v.items
     c.in_ok-values.ensures.said c.as_slice.ensures.value same)
     c.all_of.ensures.same
 
@@ -25,5 +26,6 @@ pub returns-clause-refused : goal.returns-clause-refused
 returns-clause-refused c =
     IfErr-weaker c.all_of.result _ _
     (λ e lack. lack-cause c.args.params.now (map (λ w. w.now) c.args.words.now) c.as_slice.result.now
-    (subst (λ vs. AreSaid c.args.params.now (map (λ w. w.now) c.args.words.now) vs) (sym c.as_slice.ensures.value) c.in_ok-values.ensures.said) e lack)
+    (subst (λ vs. AreSaid c.args.params.now (map (λ w. w.now) c.args.words.now) vs) (sym c.as_slice.ensures.value)
+    c.in_ok-values.ensures.said) e lack)
     c.all_of.ensures.lack

@@ -16,7 +16,8 @@ returns-in_default-number_of-clause-said c =
 
 pub returns-clause-said : goal.returns-clause-said
 returns-clause-said c =
-    let inside : c.in-Some-number_of.n < length c.args.params.now = rw c.in-Some-number_of.is at c.number_of.ensures.inside in
+    let inside : c.in-Some-number_of.n < length c.args.params.now =
+    rw c.in-Some-number_of.is at c.number_of.ensures.inside in
     sym (ap (said_by c.args.params.now) (sym c.cut.ensures ∙ ap cut_so c.in-Some.is)
     ∙ ap (said_of c.args.params.now c.in-Some.value.now) (sym c.number_of.ensures.number ∙ c.in-Some-number_of.is)
     ∙ ap (λ q. Says c.in-Some-number_of.n (option_and_then (λ p. value_spelled p.kind c.in-Some.value.now) q))

@@ -9,7 +9,8 @@ use Rattle.id_source.proofs.inputs.values_said.Goals as goal
 pub returns-in-Err-clause-refused : goal.returns-in-Err-clause-refused
 returns-in-Err-clause-refused c =
     let inside : c.loop-j.j < length (map (λ w. w.now) c.args.words.now) = rw length-map c.loop-j-test.true in
-    progress-refused c.args.params.now _ c.loop-j.j c.loop-j.values.items c.loop-j.invariant inside c.said.result c.in-Err.error
+    progress-refused c.args.params.now _ c.loop-j.j c.loop-j.values.items c.loop-j.invariant inside c.said.result
+    c.in-Err.error
     (c.said.ensures.said ∙ sym (word_at c.args.params.now c.args.words.now c.loop-j.j _ c.loop-j-test.true))
     (subst (λ k. IfSome c.said.result (λ x. x.0 < k)) (sym c.loop-j.invariant.size) c.said.ensures.inside)
     c.in-Err.ensures.refused
@@ -17,7 +18,8 @@ returns-in-Err-clause-refused c =
 pub loop-j-preserved : goal.loop-j-preserved
 loop-j-preserved c =
     let inside : c.loop-j.j < length (map (λ w. w.now) c.args.words.now) = rw length-map c.loop-j-test.true in
-    subst (Progress c.args.params.now (map (λ w. w.now) c.args.words.now) (c.loop-j.j + 1)) (sym c.in_default.ensures.put)
+    subst (Progress c.args.params.now (map (λ w. w.now) c.args.words.now) (c.loop-j.j + 1))
+    (sym c.in_default.ensures.put)
     (progress-next c.args.params.now _ c.loop-j.j c.loop-j.values.items c.loop-j.invariant inside c.said.result
     (c.said.ensures.said ∙ sym (word_at c.args.params.now c.args.words.now c.loop-j.j _ c.loop-j-test.true))
     (subst (λ k. IfSome c.said.result (λ x. x.0 < k)) (sym c.loop-j.invariant.size) c.said.ensures.inside)
@@ -37,7 +39,8 @@ returns-in-Err-clause-said c = tt
 
 pub returns-clause-said : goal.returns-clause-said
 returns-clause-said c =
-    said-all c.args.params.now (map (λ w. w.now) c.args.words.now) c.loop-j.j c.loop-j.values.items c.loop-j.invariant (rw length-map c.loop-j-test.false)
+    said-all c.args.params.now (map (λ w. w.now) c.args.words.now) c.loop-j.j c.loop-j.values.items c.loop-j.invariant
+    (rw length-map c.loop-j-test.false)
 
 pub returns-clause-refused : goal.returns-clause-refused
 returns-clause-refused c = tt

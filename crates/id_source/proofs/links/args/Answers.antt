@@ -8,7 +8,8 @@ pub loop-n-preserved : goal.loop-n-preserved
 loop-n-preserved c =
     let n = c.loop-n.n in
     let next : n + 1 ≡ suc n = omega arith in
-    args-by c.args.checked.now n (n + 1) _ _ c.as_slice-row-items.result.now c.asker_of.result next c.as_slice-row-items.ensures.value c.asker_of.ensures
+    args-by c.args.checked.now n (n + 1) _ _ c.as_slice-row-items.result.now c.asker_of.result next
+    c.as_slice-row-items.ensures.value c.asker_of.ensures
     c.loop-n.invariant c.in_ok-add_read.ensures
 
 pub returns-in_err-args : goal.returns-in_err-args

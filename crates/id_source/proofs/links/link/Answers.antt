@@ -12,10 +12,12 @@ pub returns-in_err-turns-clause-args : goal.returns-in_err-turns-clause-args
 returns-in_err-turns-clause-args c = if_err _ c.from_residual.result c.from_residual.ensures.0
 
 pub returns-in_err-reads-clause-turns : goal.returns-in_err-reads-clause-turns
-returns-in_err-reads-clause-turns c = if_err _ c.from_residual-in_err-reads.result c.from_residual-in_err-reads.ensures.0
+returns-in_err-reads-clause-turns c =
+    if_err _ c.from_residual-in_err-reads.result c.from_residual-in_err-reads.ensures.0
 
 pub returns-in_err-reads-clause-reads : goal.returns-in_err-reads-clause-reads
-returns-in_err-reads-clause-reads c = if_err _ c.from_residual-in_err-reads.result c.from_residual-in_err-reads.ensures.0
+returns-in_err-reads-clause-reads c =
+    if_err _ c.from_residual-in_err-reads.result c.from_residual-in_err-reads.ensures.0
 
 pub returns-in_err-reads-clause-args : goal.returns-in_err-reads-clause-args
 returns-in_err-reads-clause-args c = if_err _ c.from_residual-in_err-reads.result c.from_residual-in_err-reads.ensures.0

@@ -13,8 +13,10 @@ loop-n-preserved c =
     let next : n + 1 ≡ suc n = omega arith in
     let rows = c.as_slice-row-items.result.now in
     let same : c.as_slice.result.now ≡ rows = c.as_slice.ensures.value ∙ sym c.as_slice-row-items.ensures.value in
-    let F : List Row → Type 0 = λ xs. GainsTo c.loop-n.reads c.add_reads.new.reads (linked_of xs c.beyond.result (at rows n).node) n in
-    reads-by c.args.checked.now n (n + 1) _ _ rows c.beyond.result next c.as_slice-row-items.ensures.value c.beyond.ensures c.loop-n.invariant
+    let F : List Row → Type 0 =
+    λ xs. GainsTo c.loop-n.reads c.add_reads.new.reads (linked_of xs c.beyond.result (at rows n).node) n in
+    reads-by c.args.checked.now n (n + 1) _ _ rows c.beyond.result next c.as_slice-row-items.ensures.value
+    c.beyond.ensures c.loop-n.invariant
     (subst F same c.in_ok-add_reads.ensures)
 
 pub returns-in_err-reads : goal.returns-in_err-reads

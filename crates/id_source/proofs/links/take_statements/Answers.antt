@@ -9,12 +9,14 @@ loop-statement-init c = takes-init c.args.turns.now c.args.waiting.now.items c.a
 
 pub returns-then-statement-first : goal.returns-then-statement-first
 returns-then-statement-first c =
-    takes-some _ _ _ _ c.pop.new.self.items _ c.in-Some.statement c.args.first c.args.from c.loop-statement.invariant c.in-Some.ensures.items
+    takes-some _ _ _ _ c.pop.new.self.items _ c.in-Some.statement c.args.first c.args.from c.loop-statement.invariant
+    c.in-Some.ensures.items
     c.in_ok-push.ensures.items (omega arith)
 
 pub loop-statement-preserved : goal.loop-statement-preserved
 loop-statement-preserved c =
-    takes-step _ _ _ _ _ c.pop.new.self.items c.in-Some.statement c.args.first c.args.from c.loop-statement.invariant c.in-Some.ensures.items
+    takes-step _ _ _ _ _ c.pop.new.self.items c.in-Some.statement c.args.first c.args.from c.loop-statement.invariant
+    c.in-Some.ensures.items
     (omega arith) c.in_ok-add_from.ensures
 
 pub returns : goal.returns

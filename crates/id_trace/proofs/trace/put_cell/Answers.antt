@@ -7,9 +7,11 @@ use Rattle.id_trace.proofs.trace.put_cell.Goals as goal
 
 pub returns-in_err-put_structure : goal.returns-in_err-put_structure
 returns-in_err-put_structure g c =
-    Prints-stop _ _ _ (codes "[" ++ (signed_decimal c.args.cell.index ++ codes "]")) _ _ c.in_err-put_structure.ensures c.from_residual.ensures.0
+    Prints-stop _ _ _ (codes "[" ++ (signed_decimal c.args.cell.index ++ codes "]")) _ _ c.in_err-put_structure.ensures
+    c.from_residual.ensures.0
 
 pub returns : goal.returns
 returns g c =
     let index_fits : SFits w64 c.args.cell.index = search rules in
-    Prints-then _ _ _ _ _ _ _ c.in_ok-put_structure.ensures (rw (to_z-of_z w64 c.args.cell.index index_fits) at c.put_index.ensures)
+    Prints-then _ _ _ _ _ _ _ c.in_ok-put_structure.ensures
+    (rw (to_z-of_z w64 c.args.cell.index index_fits) at c.put_index.ensures)

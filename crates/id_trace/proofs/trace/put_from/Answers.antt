@@ -6,11 +6,13 @@ use Rattle.id_trace.proofs.trace.put_from.Goals as goal
 
 pub returns-in_err-put : goal.returns-in_err-put
 returns-in_err-put g c =
-    Prints-stop _ _ _ (turn_text c.args.tag ++ (codes " " ++ decimal c.args.tag.instr)) _ _ c.in_err-put.ensures c.from_residual.ensures.0
+    Prints-stop _ _ _ (turn_text c.args.tag ++ (codes " " ++ decimal c.args.tag.instr)) _ _ c.in_err-put.ensures
+    c.from_residual.ensures.0
 
 pub returns-in_err-put_turn : goal.returns-in_err-put_turn
 returns-in_err-put_turn g c =
-    Prints-then _ _ _ _ _ _ _ c.in_ok-put.ensures (Prints-stop _ _ _ (codes " " ++ decimal c.args.tag.instr) _ _ c.in_err-put_turn.ensures
+    Prints-then _ _ _ _ _ _ _ c.in_ok-put.ensures
+    (Prints-stop _ _ _ (codes " " ++ decimal c.args.tag.instr) _ _ c.in_err-put_turn.ensures
     c.from_residual-in_err-put_turn.ensures.0)
 
 pub returns-in_err-put-2 : goal.returns-in_err-put-2

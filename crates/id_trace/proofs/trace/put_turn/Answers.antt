@@ -4,11 +4,15 @@ use Rattle.id_sink.proofs.SinkLemmas.{Prints-stop, Prints-then}
 use Rattle.id_trace.proofs.trace.put_turn.Goals as goal
 
 pub returns-in_err-put_context : goal.returns-in_err-put_context
-returns-in_err-put_context g c = Prints-stop _ _ _ (codes "#" ++ decimal c.args.tag.iteration) _ _ c.in_err-put_context.ensures c.from_residual.ensures.0
+returns-in_err-put_context g c =
+    Prints-stop _ _ _ (codes "#" ++ decimal c.args.tag.iteration) _ _ c.in_err-put_context.ensures
+    c.from_residual.ensures.0
 
 pub returns-in_err-put : goal.returns-in_err-put
 returns-in_err-put g c = Prints-then _ _ _ _ _ _ _ c.in_ok-put_context.ensures
     (Prints-stop _ _ _ (decimal c.args.tag.iteration) _ _ c.in_err-put.ensures c.from_residual-in_err-put.ensures.0)
 
 pub returns : goal.returns
-returns g c = Prints-then _ _ _ _ _ _ _ c.in_ok-put_context.ensures (Prints-then _ _ _ _ _ _ _ c.in_ok-put.ensures c.put_long.ensures)
+returns g c =
+    Prints-then _ _ _ _ _ _ _ c.in_ok-put_context.ensures
+    (Prints-then _ _ _ _ _ _ _ c.in_ok-put.ensures c.put_long.ensures)

@@ -5,26 +5,31 @@ use Rattle.id_trace.proofs.trace.put_write.Goals as goal
 
 pub returns-in_err-put : goal.returns-in_err-put
 returns-in_err-put g c =
-    Prints-stop _ _ _ (cell_text c.args.cell ++ (codes " " ++ (carried_text c.args.value ++ from_text c.args.origin))) _ _ c.in_err-put.ensures
+    Prints-stop _ _ _ (cell_text c.args.cell ++ (codes " " ++ (carried_text c.args.value ++ from_text c.args.origin))) _
+    _ c.in_err-put.ensures
     c.from_residual.ensures.0
 
 pub returns-in_err-put_cell : goal.returns-in_err-put_cell
 returns-in_err-put_cell g c =
-    Prints-then _ _ _ _ _ _ _ c.in_ok-put.ensures (Prints-stop _ _ _ (codes " " ++ (carried_text c.args.value ++ from_text c.args.origin)) _ _
+    Prints-then _ _ _ _ _ _ _ c.in_ok-put.ensures
+    (Prints-stop _ _ _ (codes " " ++ (carried_text c.args.value ++ from_text c.args.origin)) _ _
     c.in_err-put_cell.ensures c.from_residual-in_err-put_cell.ensures.0)
 
 pub returns-in_err-put-2 : goal.returns-in_err-put-2
 returns-in_err-put-2 g c =
     Prints-then _ _ _ _ _ _ _ c.in_ok-put.ensures (Prints-then _ _ _ _ _ _ _ c.in_ok-put_cell.ensures
-    (Prints-stop _ _ _ (carried_text c.args.value ++ from_text c.args.origin) _ _ c.in_err-put-2.ensures c.from_residual-in_err-put-2.ensures.0))
+    (Prints-stop _ _ _ (carried_text c.args.value ++ from_text c.args.origin) _ _ c.in_err-put-2.ensures
+    c.from_residual-in_err-put-2.ensures.0))
 
 pub returns-in_err-put_carried : goal.returns-in_err-put_carried
 returns-in_err-put_carried g c =
     Prints-then _ _ _ _ _ _ _ c.in_ok-put.ensures (Prints-then _ _ _ _ _ _ _ c.in_ok-put_cell.ensures
-    (Prints-then _ _ _ _ _ _ _ c.in_ok-put-2.ensures (Prints-stop _ _ _ (from_text c.args.origin) _ _ c.in_err-put_carried.ensures
+    (Prints-then _ _ _ _ _ _ _ c.in_ok-put-2.ensures
+    (Prints-stop _ _ _ (from_text c.args.origin) _ _ c.in_err-put_carried.ensures
     c.from_residual-in_err-put_carried.ensures.0)))
 
 pub returns : goal.returns
 returns g c =
     Prints-then _ _ _ _ _ _ _ c.in_ok-put.ensures (Prints-then _ _ _ _ _ _ _ c.in_ok-put_cell.ensures
-    (Prints-then _ _ _ _ _ _ _ c.in_ok-put-2.ensures (Prints-then _ _ _ _ _ _ _ c.in_ok-put_carried.ensures c.put_from.ensures)))
+    (Prints-then _ _ _ _ _ _ _ c.in_ok-put-2.ensures
+    (Prints-then _ _ _ _ _ _ _ c.in_ok-put_carried.ensures c.put_from.ensures)))

@@ -5,4 +5,5 @@ use Rattle.id_why.proofs.needs.add_arms.Given as goal
 
 abbrev pub invariant-loop-test : goal.invariant-loop-test
 invariant-loop-test l =
-    l.found.items ++ arms l.path l.then l.otherwise (drop l.test-index l.tests) ≡ l.initial.found.items ++ arms l.path l.then l.otherwise l.tests
+    l.found.items ++ arms l.path l.then l.otherwise (drop l.test-index l.tests) ≡ l.initial.found.items
+    ++ arms l.path l.then l.otherwise l.tests

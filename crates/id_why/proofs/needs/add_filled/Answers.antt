@@ -10,7 +10,8 @@ pub loop-number-preserved : goal.loop-number-preserved
 loop-number-preserved c =
     let by = filler c.args.checked.now c.args.known.now c.args.cell in
     let told_by = c.in_ok-point.ensures ∙ ap by c.fact-fact.ensures in
-    told-more by (known_facts c.args.known.now) c.args.numbers.now c.args.numbers.now c.loop-number.number-index _ _ _ _ refl
+    told-more by (known_facts c.args.known.now) c.args.numbers.now c.args.numbers.now c.loop-number.number-index _ _ _ _
+    refl
     c.loop-number-test.true
     (elim c.match-branch-2.branch [
       | in-Some+in_ok-push w ↦ listed-some c.in_ok-point.field-0 _ w.in-Some.point _ _ told_by w.in-Some.is

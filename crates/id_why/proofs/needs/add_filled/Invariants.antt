@@ -7,5 +7,6 @@ use Rattle.id_why.proofs.needs.add_filled.Given as goal
 
 abbrev pub invariant-loop-number : goal.invariant-loop-number
 invariant-loop-number l =
-    l.found.items ++ told (filler l.checked l.known l.cell) (known_facts l.known) (drop l.number-index l.numbers) ≡ l.initial.found.items ++
+    l.found.items ++ told (filler l.checked l.known l.cell) (known_facts l.known) (drop l.number-index l.numbers)
+    ≡ l.initial.found.items ++
     told (filler l.checked l.known l.cell) (known_facts l.known) l.numbers

@@ -5,4 +5,5 @@ use Rattle.id_why.proofs.needs.add_fillers.Given as goal
 
 abbrev pub invariant-loop-cell : goal.invariant-loop-cell
 invariant-loop-cell l =
-    l.found.items ++ fillers l.checked l.known (drop l.cell-index l.cells) ≡ l.initial.found.items ++ fillers l.checked l.known l.cells
+    l.found.items ++ fillers l.checked l.known (drop l.cell-index l.cells) ≡ l.initial.found.items
+    ++ fillers l.checked l.known l.cells

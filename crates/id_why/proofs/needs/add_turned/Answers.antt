@@ -14,7 +14,8 @@ pub loop-number-preserved : goal.loop-number-preserved
 loop-number-preserved c =
     let by = turn_by c.args.spot c.args.last c.args.test in
     let told_by = c.turn_by.ensures ∙ ap by c.fact.ensures in
-    told-more by (known_facts c.args.known.now) c.args.numbers.now c.args.numbers.now c.loop-number.number-index _ _ _ _ refl
+    told-more by (known_facts c.args.known.now) c.args.numbers.now c.args.numbers.now c.loop-number.number-index _ _ _ _
+    refl
     c.loop-number-test.true
     (elim c.match-turn_by.branch [
       | in-Some+in_ok-push w ↦ listed-some c.turn_by.result _ w.in-Some.point _ _ told_by w.in-Some.is
@@ -28,5 +29,6 @@ returns-in_err-push c = on_ok _ c.from_residual.result c.from_residual.ensures.0
 
 pub returns : goal.returns
 returns c =
-    told-all (turn_by c.args.spot c.args.last c.args.test) (known_facts c.args.known.now) c.args.numbers.now c.args.numbers.now
+    told-all (turn_by c.args.spot c.args.last c.args.test) (known_facts c.args.known.now) c.args.numbers.now
+    c.args.numbers.now
     c.loop-number.number-index _ _ refl c.loop-number-test.false c.loop-number.invariant

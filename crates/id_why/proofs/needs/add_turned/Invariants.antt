@@ -7,5 +7,6 @@ use Rattle.id_why.proofs.needs.add_turned.Given as goal
 
 abbrev pub invariant-loop-number : goal.invariant-loop-number
 invariant-loop-number l =
-    l.found.items ++ told (turn_by l.spot l.last l.test) (known_facts l.known) (drop l.number-index l.numbers) ≡ l.initial.found.items ++
+    l.found.items ++ told (turn_by l.spot l.last l.test) (known_facts l.known) (drop l.number-index l.numbers)
+    ≡ l.initial.found.items ++
     told (turn_by l.spot l.last l.test) (known_facts l.known) l.numbers

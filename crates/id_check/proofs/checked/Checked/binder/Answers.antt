@@ -9,7 +9,8 @@ index-requires c = omega (arith, c.if-i-len.true, c.len.ensures)
 pub returns-then-i-len : goal.returns-then-i-len
 returns-then-i-len c =
     let ks = c.args.self.now.binders in
-    c.wide.ensures ∙ get_or_read ks.items c.args.i _ (omega (arith, c.if-i-len.true, c.len.ensures, ks.ok.0)) c.index.ensures None
+    c.wide.ensures
+    ∙ get_or_read ks.items c.args.i _ (omega (arith, c.if-i-len.true, c.len.ensures, ks.ok.0)) c.index.ensures None
 
 pub returns-else-i-len : goal.returns-else-i-len
 returns-else-i-len c =

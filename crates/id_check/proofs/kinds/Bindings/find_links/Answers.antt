@@ -11,7 +11,8 @@ loop-i-preserved c =
     let l : ℕ → Link = link_at (list_of c.args.self.now.rows.now) (λ j. get_or c.args.self.now.binders.now j None) in
     let ks = c.loop-i.links.items in
     let h = c.loop-i.invariant in
-    let states : (j : ℕ) → j < length ks → IsState l 0 j (get_or ks j Nowhere) = λ j b. h.states j (subst (λ n. j < n) h.long b) in
+    let states : (j : ℕ) → j < length ks → IsState l 0 j (get_or ks j Nowhere) =
+    λ j b. h.states j (subst (λ n. j < n) h.long b) in
     IsGoing-push l c.loop-i.i ks c.push.new.self.items c.follow.result c.in_ok-push.ensures.items h
     (c.follow.ensures l c.loop-i.i (sym c.link_at-link.ensures)
     (subst (λ zs. (j : ℕ) → j < length zs → IsState l 0 j (get_or zs j Nowhere)) (sym c.as_slice.ensures.value) states))
@@ -19,7 +20,8 @@ loop-i-preserved c =
 pub returns : goal.returns
 returns c =
     let l : ℕ → Link = link_at (list_of c.args.self.now.rows.now) (λ j. get_or c.args.self.now.binders.now j None) in
-    let end : c.loop-i.i ≡ length (list_of c.args.self.now.rows.now) = omega (arith, c.loop-i.auto.i-end, c.loop-i-test.false) in
+    let end : c.loop-i.i ≡ length (list_of c.args.self.now.rows.now) =
+    omega (arith, c.loop-i.auto.i-end, c.loop-i-test.false) in
     subst (λ n. IsGoing l n 0 c.loop-i.links.items) end c.loop-i.invariant
 
 pub returns-in_err-links : goal.returns-in_err-links

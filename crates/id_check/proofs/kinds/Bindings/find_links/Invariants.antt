@@ -6,4 +6,5 @@ use Rattle.id_check.specs.Chains.{IsGoing}
 use Rattle.id_check.proofs.kinds.Bindings.find_links.Given as goal
 
 abbrev pub invariant-loop-i : goal.invariant-loop-i
-invariant-loop-i l = IsGoing (link_at (list_of l.self.rows.now) (λ j. get_or l.self.binders.now j None)) l.i 0 l.links.items
+invariant-loop-i l =
+    IsGoing (link_at (list_of l.self.rows.now) (λ j. get_or l.self.binders.now j None)) l.i 0 l.links.items

@@ -12,7 +12,8 @@ pub returns : goal.returns
 returns c =
     let node = ap (λ (r : Row). r.node) c.at-node.ensures in
     c.link_of.ensures
-    ∙ ap (λ o. link_of o c.at-node.result.node) (c.binder_at.ensures ∙ ap (λ k. get_or c.args.self.now.binders.now k None) c.user_of.ensures)
+    ∙ ap (λ o. link_of o c.at-node.result.node) (c.binder_at.ensures
+    ∙ ap (λ k. get_or c.args.self.now.binders.now k None) c.user_of.ensures)
     ∙ ap (λ n. link_of (get_or c.args.self.now.binders.now (user_of c.args.i n) None) n) node
 
 pub link_of-requires-clause-binder : goal.link_of-requires-clause-binder
@@ -22,7 +23,8 @@ link_of-requires-clause-binder c = λ b e.
     let node = ap (λ (r : Row). r.node) c.at-node.ensures in
     let u = user_of c.args.i (at R c.args.i).node in
     let less = c.args.self.now.within u b (user_below R c.args.i formed c.requires)
-    (sym (c.binder_at.ensures ∙ ap (λ k. get_or c.args.self.now.binders.now k None) (c.user_of.ensures ∙ ap (user_of c.args.i) node)) ∙ e) in
+    (sym (c.binder_at.ensures
+    ∙ ap (λ k. get_or c.args.self.now.binders.now k None) (c.user_of.ensures ∙ ap (user_of c.args.i) node)) ∙ e) in
     omega (arith, c.args.self.now.rows.now.few)
 
 pub link_of-requires-clause-parts : goal.link_of-requires-clause-parts

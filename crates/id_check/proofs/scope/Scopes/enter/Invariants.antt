@@ -8,5 +8,6 @@ abbrev pub invariant-loop-k : goal.invariant-loop-k
 invariant-loop-k l = record {
   stays : Stays l.initial.self l.self;
   taken : HasTaken l.self (get_or l.untaken l.k l.self.passed);
-  first : Notes l.initial.self.first (seconds (rows l.initial.self) l.initial.self.passed (get_or l.untaken l.k l.initial.self.passed)) l.self.first;
+  first : Notes l.initial.self.first
+      (seconds (rows l.initial.self) l.initial.self.passed (get_or l.untaken l.k l.initial.self.passed)) l.self.first;
 }

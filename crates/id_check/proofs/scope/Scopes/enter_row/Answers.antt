@@ -25,13 +25,17 @@ returns-then-takes-clause-taken c =
     let inside = c.requires.inside in
     let less : b < length R = omega arith in
     let bare : held R b s ≡ false = sym c.is_held.ensures ∙ c.if-not-is_held.true in
-    let is = keeps_inside R s b (by_nodes takes R s b c.at.result c.at-then-not-is_held.result c.takes.result c.at.ensures c.at-then-not-is_held.ensures c.takes.ensures ∙ c.if-takes.true) c.requires.behind inside in
+    let is = keeps_inside R s b
+    (by_nodes takes R s b c.at.result c.at-then-not-is_held.result c.takes.result c.at.ensures
+    c.at-then-not-is_held.ensures c.takes.ensures ∙ c.if-takes.true) c.requires.behind inside in
     let stays = c.bind.ensures.stays in
-    let long : length q.bound.items ≡ length p.bound.items = q.named ∙ ap (λ r. length r.table.now.names.items) stays.rows ∙ sym p.named in
+    let long : length q.bound.items ≡ length p.bound.items =
+    q.named ∙ ap (λ r. length r.table.now.names.items) stays.rows ∙ sym p.named in
     let same : length (rows q) ≡ length R = ap (λ r. length (list_of r)) stays.rows in
     moved (λ r t. IsTaking (list_of r) t (b + 1) q.bound.items q.binders.items) stays.rows stays.passed
     (taking_open R s b (length p.bound.items) p.bound.items q.bound.items p.binders.items q.binders.items less is bare
-    (subst (AreNames R) (sym p.named) (are_names p.rows.now)) refl long c.requires.taken c.bind.ensures.bound c.bind.ensures.later
+    (subst (AreNames R) (sym p.named) (are_names p.rows.now)) refl long c.requires.taken c.bind.ensures.bound
+    c.bind.ensures.later
     (q.waiting.long_binders ∙ same) c.bind.ensures.binders)
 
 -- the scope does not take the row
@@ -47,7 +51,8 @@ shut c =
     elim c.else-not-is_held.branch [
       | else-not-is_held-via-then-not-is_held+else-takes w ↦
           shut_kept R s b (keeps_is R s b c.requires.behind inside
-          ∙ (by_nodes takes R s b w.at.result w.at-then-not-is_held.result w.takes.result w.at.ensures w.at-then-not-is_held.ensures w.takes.ensures ∙ w.if-takes.false))
+          ∙ (by_nodes takes R s b w.at.result w.at-then-not-is_held.result w.takes.result w.at.ensures
+          w.at-then-not-is_held.ensures w.takes.ensures ∙ w.if-takes.false))
       | else-not-is_held-via-else-not-is_held w ↦ shut_held R s b (sym c.is_held.ensures ∙ w.if-not-is_held.false)
     ]
 
@@ -63,7 +68,8 @@ returns-else-not-is_held-clause-first c =
     let p = c.args.self.now in
     let R = rows p in
     let b = c.args.binder in
-    subst (λ cs. Notes p.first cs p.first) (sym (second-none R p.passed b (bound_name (at R b).node) (shut c).binds)) (Notes-none p.first)
+    subst (λ cs. Notes p.first cs p.first) (sym (second-none R p.passed b (bound_name (at R b).node) (shut c).binds))
+    (Notes-none p.first)
 
 pub returns-then-takes-clause-first : goal.returns-then-takes-clause-first
 returns-then-takes-clause-first c =
@@ -75,9 +81,12 @@ returns-then-takes-clause-first c =
     let inside = c.requires.inside in
     let less : b < length R = omega arith in
     let bare : held R b s ≡ false = sym c.is_held.ensures ∙ c.if-not-is_held.true in
-    let is = keeps_inside R s b (by_nodes takes R s b c.at.result c.at-then-not-is_held.result c.takes.result c.at.ensures c.at-then-not-is_held.ensures c.takes.ensures ∙ c.if-takes.true) c.requires.behind inside in
+    let is = keeps_inside R s b
+    (by_nodes takes R s b c.at.result c.at-then-not-is_held.result c.takes.result c.at.ensures
+    c.at-then-not-is_held.ensures c.takes.ensures ∙ c.if-takes.true) c.requires.behind inside in
     subst (λ cs. Notes p.first cs c.bind.new.self.first)
-    (again-second R s b p.bound.items is bare (λ x e. subst (λ n. x < n) (sym p.named) ((are_names p.rows.now).bound b x less e)) c.requires.taken.bound)
+    (again-second R s b p.bound.items is bare
+    (λ x e. subst (λ n. x < n) (sym p.named) ((are_names p.rows.now).bound b x less e)) c.requires.taken.bound)
     c.bind.ensures.first
 
 pub returns-then-takes-clause-stays : goal.returns-then-takes-clause-stays

@@ -8,7 +8,8 @@ use Rattle.id_check.proofs.scope.Scopes.give.Goals as goal
 
 next : (v : Scopes) (x u : ℕ) (o : Option ℕ) → x < keys_of v → IsBehind (rows v) v.binders.items v.passed x o
     → use_before v.last.items v.earlier.items x o ≡ Some u → IsNextUse (rows v) v.passed x u o v.binders.items
-next v x u o less b e = next_use (rows v) v.passed (keys_of v) x u o v.binders.items v.last.items v.earlier.items less v.waiting b e
+next v x u o less b e =
+    next_use (rows v) v.passed (keys_of v) x u o v.binders.items v.last.items v.earlier.items less v.waiting b e
 
 in_earlier : (v : Scopes) (x u : ℕ) (o : Option ℕ) → x < keys_of v → IsBehind (rows v) v.binders.items v.passed x o
     → use_before v.last.items v.earlier.items x o ≡ Some u → u < length v.earlier.items
@@ -39,7 +40,8 @@ index_mut-requires c =
     omega (arith, less, v.binders.ok.0)
 
 -- the one before it is read
-read : (v : Scopes) (u : ℕ) (o : Option ℕ) → u < length v.earlier.items → o ≡ get_or v.earlier.items u o → o ≡ get_or v.earlier.items u None
+read : (v : Scopes) (u : ℕ) (o : Option ℕ) → u < length v.earlier.items → o ≡ get_or v.earlier.items u o
+    → o ≡ get_or v.earlier.items u None
 read v u o less e = e ∙ get_or_default v.earlier.items u o None less
 
 pub invariant_of-self : goal.invariant_of-self
@@ -59,9 +61,12 @@ invariant_of-self c =
       closed = v.closed;
       named = v.named;
       waiting =
-          subst (λ o. AreWaiting R s m (set v.binders.items u (Some c.args.binder)) v.last.items (set v.earlier.items l o))
-          (sym (read v u c.index-earlier.result.now (in_earlier v x u c.args.behind c.requires.key c.requires.behind c.requires.next) c.index-earlier.ensures))
-          (waiting_cut R s m x u c.args.binder l v.binders.items v.last.items v.earlier.items (omega arith) c.requires.key behind.0 behind.1 here c.args.self.now.waiting);
+          subst (λ o. AreWaiting R s m (set v.binders.items u (Some c.args.binder)) v.last.items
+          (set v.earlier.items l o))
+          (sym (read v u c.index-earlier.result.now
+          (in_earlier v x u c.args.behind c.requires.key c.requires.behind c.requires.next) c.index-earlier.ensures))
+          (waiting_cut R s m x u c.args.binder l v.binders.items v.last.items v.earlier.items (omega arith)
+          c.requires.key behind.0 behind.1 here c.args.self.now.waiting);
     }
 
 pub invariant_of-self-in-None : goal.invariant_of-self-in-None
@@ -79,13 +84,26 @@ invariant_of-self-in-None c =
       closed = v.closed;
       named = v.named;
       waiting =
-          subst (λ o. AreWaiting R s m (set v.binders.items u (Some c.args.binder)) (set v.last.items x o) v.earlier.items)
-          (sym (read v u c.index-earlier.result.now (in_earlier v x u c.args.behind c.requires.key c.requires.behind c.requires.next) c.index-earlier.ensures))
-          (waiting_set R s m x u c.args.binder v.binders.items v.last.items v.earlier.items (omega arith) c.requires.key here c.args.self.now.waiting);
+          subst (λ o. AreWaiting R s m (set v.binders.items u (Some c.args.binder)) (set v.last.items x o)
+          v.earlier.items)
+          (sym (read v u c.index-earlier.result.now
+          (in_earlier v x u c.args.behind c.requires.key c.requires.behind c.requires.next) c.index-earlier.ensures))
+          (waiting_set R s m x u c.args.binder v.binders.items v.last.items v.earlier.items (omega arith) c.requires.key
+          here c.args.self.now.waiting);
     }
 
 pub returns-in-Some : goal.returns-in-Some
-returns-in-Some c = record { keeps = record { stays = record { rows = refl; passed = refl }; bound = refl; first = refl }; binders = refl }
+returns-in-Some c =
+    record {
+      keeps = record { stays = record { rows = refl; passed = refl }; bound = refl; first = refl };
+      binders =
+          refl;
+    }
 
 pub returns-in-None : goal.returns-in-None
-returns-in-None c = record { keeps = record { stays = record { rows = refl; passed = refl }; bound = refl; first = refl }; binders = refl }
+returns-in-None c =
+    record {
+      keeps = record { stays = record { rows = refl; passed = refl }; bound = refl; first = refl };
+      binders =
+          refl;
+    }

@@ -16,4 +16,6 @@ returns c =
     let inside = p.inside in
     let long = p.closed.long in
     let less = c.requires in
-    c.index.ensures ∙ (get_or_default p.held.items c.args.row c.index.result.now false (omega arith) ∙ p.closed.each c.args.row (omega arith))
+    c.index.ensures
+    ∙ (get_or_default p.held.items c.args.row c.index.result.now false (omega arith)
+    ∙ p.closed.each c.args.row (omega arith))

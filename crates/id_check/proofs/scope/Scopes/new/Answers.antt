@@ -27,7 +27,9 @@ invariant_of-result c =
         each = λ i less. all_same c.in_ok-held.held.items c.len-count.result i false hs;
       };
       named = named;
-      waiting = waiting_none R (keys (length c.args.rows.now.table.now.names.items)) c.in_ok-binders.binders.items c.in_ok-last.last.items
+      waiting =
+          waiting_none R (keys (length c.args.rows.now.table.now.names.items)) c.in_ok-binders.binders.items
+          c.in_ok-last.last.items
           c.in_ok-earlier.earlier.items os ls es;
     }
 

@@ -34,7 +34,8 @@ returns-else-not-sees_own c =
       passes = c.take.ensures.passes;
       begun = c.take.ensures.begun;
       untaken = open_same (rows p) p.passed (p.passed + 1) c.take.new.untaken.items
-          (by_node sees_own (rows p) p.passed c.at.result c.sees_own-sees_own.result c.at.ensures c.sees_own-sees_own.ensures ∙ c.if-not-sees_own.false)
+          (by_node sees_own (rows p) p.passed c.at.result c.sees_own-sees_own.result c.at.ensures
+          c.sees_own-sees_own.ensures ∙ c.if-not-sees_own.false)
           c.take.ensures.untaken;
       first = c.take.ensures.first;
     }

@@ -21,15 +21,20 @@ found : (c : In-Some)
     ((at (rows c.args.self.now) c.args.self.now.passed).first ≤ c.in-Some.u)
 found c =
     let f = (at (rows c.args.self.now) c.args.self.now.passed).first in
-    not_before-some f c.in-Some.u (use_before c.loop-u.self.last.items c.loop-u.self.earlier.items c.args.key c.loop-u.behind)
+    not_before-some f c.in-Some.u
+    (use_before c.loop-u.self.last.items c.loop-u.self.earlier.items c.args.key c.loop-u.behind)
     (sym (read c.at-first.result c.not_before.result c.use_before.result (rows c.args.self.now) c.args.self.now.passed
-    (use_before c.loop-u.self.last.items c.loop-u.self.earlier.items c.args.key c.loop-u.behind) c.at-first.ensures c.use_before.ensures c.not_before.ensures)
+    (use_before c.loop-u.self.last.items c.loop-u.self.earlier.items c.args.key c.loop-u.behind) c.at-first.ensures
+    c.use_before.ensures c.not_before.ensures)
     ∙ c.in-Some.is)
 
-next : (c : In-Some) → IsNextUse (rows c.args.self.now) c.args.self.now.passed c.args.key c.in-Some.u c.loop-u.behind c.loop-u.self.binders.items
+next : (c : In-Some)
+    → IsNextUse (rows c.args.self.now) c.args.self.now.passed c.args.key c.in-Some.u c.loop-u.behind
+    c.loop-u.self.binders.items
 next c =
     let h = c.loop-u.invariant in
-    next_use (rows c.args.self.now) c.args.self.now.passed (keys_of c.args.self.now) c.args.key c.in-Some.u c.loop-u.behind c.loop-u.self.binders.items
+    next_use (rows c.args.self.now) c.args.self.now.passed (keys_of c.args.self.now) c.args.key c.in-Some.u
+    c.loop-u.behind c.loop-u.self.binders.items
     c.loop-u.self.last.items c.loop-u.self.earlier.items
     c.requires.key h.waiting h.behind (found c).0
 
@@ -64,16 +69,20 @@ loop-u-preserved-then-is_outside c =
     let h = c.loop-u.invariant in
     let w = next d in
     let row = c.args.self.now.inside in
-    let out = sym (outside_back c.args.self.now c.loop-u.self u h.keeps.stays) ∙ (sym c.is_outside.ensures ∙ c.if-is_outside.true) in
+    let out =
+    sym (outside_back c.args.self.now c.loop-u.self u h.keeps.stays)
+    ∙ (sym c.is_outside.ensures ∙ c.if-is_outside.true) in
     let keeps = keeps_through c.args.self.now c.loop-u.self n h.keeps c.give.ensures.keeps in
     let same = sym c.give.ensures.binders in
     record {
       keeps = keeps;
       waiting = waiting_back c.args.self.now n n.binders.items n.last.items n.earlier.items keeps.stays n.waiting;
-      behind = subst (λ qs. IsBehind R qs s x o) same (waiting_out R s m x u b o os ls es (omega arith) c.requires.key h.behind (found d).0 h.waiting w);
+      behind = subst (λ qs. IsBehind R qs s x o) same
+          (waiting_out R s m x u b o os ls es (omega arith) c.requires.key h.behind (found d).0 h.waiting w);
       passed = subst (ArePassed R s x o) same (passed_out R s x u b o os w h.passed);
       binders = λ i k. subst (λ qs. IsGiven R s x b c.args.self.now.binders.items qs i) same
-          (given_set R s x b u i c.args.self.now.binders.items os (found d).1 w.low (in_binders d) w.waits out (h.binders i k));
+          (given_set R s x b u i c.args.self.now.binders.items os (found d).1 w.low (in_binders d) w.waits out
+          (h.binders i k));
     }
 
 pub loop-u-smaller-then-is_outside : goal.loop-u-smaller-then-is_outside
@@ -95,12 +104,16 @@ loop-u-smaller-then-is_outside c =
     let same = sym c.give.ensures.binders in
     let keeps = keeps_through c.args.self.now c.loop-u.self n h.keeps c.give.ensures.keeps in
     let waiting = waiting_back c.args.self.now n n.binders.items n.last.items n.earlier.items keeps.stays n.waiting in
-    let behind = subst (λ qs. IsBehind R qs s x o) same (waiting_out R s m x u b o os ls es (omega arith) c.requires.key h.behind (found d).0 h.waiting
+    let behind =
+    subst (λ qs. IsBehind R qs s x o) same
+    (waiting_out R s m x u b o os ls es (omega arith) c.requires.key h.behind (found d).0 h.waiting
     (next d)) in
     let last = next_last R s m x o n.binders.items n.last.items n.earlier.items c.requires.key waiting behind in
     let less : reach (last_of (is_waiting R n.binders.items x) (limit s o)) < reach (Some u) =
-    subst (λ qs. reach (last_of (is_waiting R qs x) (limit s o)) < reach (Some u)) same (reach_out R s x u b o os (in_binders d) (next d)) in
-    subst (λ p. reach (use_before n.last.items n.earlier.items x o) < reach p) (sym (found d).0) (subst (λ p. reach p < reach (Some u)) (sym last) less)
+    subst (λ qs. reach (last_of (is_waiting R qs x) (limit s o)) < reach (Some u)) same
+    (reach_out R s x u b o os (in_binders d) (next d)) in
+    subst (λ p. reach (use_before n.last.items n.earlier.items x o) < reach p) (sym (found d).0)
+    (subst (λ p. reach p < reach (Some u)) (sym last) less)
 
 -- the use that goes on waiting is behind those to come
 pub loop-u-smaller : goal.loop-u-smaller
@@ -114,19 +127,22 @@ loop-u-smaller c =
     let es = c.loop-u.self.earlier.items in
     let h = c.loop-u.invariant in
     subst (λ p. reach (get_or es u None) < reach p) (sym (found d).0)
-    (subst (λ p. reach p < reach (Some u)) (sym (h.waiting.earlier x u c.requires.key (next d).low (next d).waits)) (reach-less (is_waiting R os x) u))
+    (subst (λ p. reach p < reach (Some u)) (sym (h.waiting.earlier x u c.requires.key (next d).low (next d).waits))
+    (reach-less (is_waiting R os x) u))
 
 pub loop-u-preserved : goal.loop-u-preserved
 loop-u-preserved c =
     let d = (goal.at.loop-u-preserved c).In-Some in
     let h = c.loop-u.invariant in
     let w = next d in
-    let no = sym (outside_back c.args.self.now c.loop-u.self c.in-Some.u h.keeps.stays) ∙ (sym c.is_outside.ensures ∙ c.if-is_outside.false) in
+    let no = sym (outside_back c.args.self.now c.loop-u.self c.in-Some.u h.keeps.stays)
+    ∙ (sym c.is_outside.ensures ∙ c.if-is_outside.false) in
     record {
       keeps = h.keeps;
       waiting = h.waiting;
       behind = (w.low, w.waits);
-      passed = passed_on (rows c.args.self.now) c.args.self.now.passed c.args.key c.in-Some.u c.loop-u.behind c.loop-u.self.binders.items w no h.passed;
+      passed = passed_on (rows c.args.self.now) c.args.self.now.passed c.args.key c.in-Some.u c.loop-u.behind
+          c.loop-u.self.binders.items w no h.passed;
       binders = h.binders;
     }
 
@@ -142,23 +158,28 @@ loop-u-init c =
     }
 
 pub use_before-requires-clause-key : goal.use_before-requires-clause-key
-use_before-requires-clause-key c = key_on c.args.self.now c.loop-u.self c.args.key c.loop-u.invariant.keeps.stays c.requires.key
+use_before-requires-clause-key c =
+    key_on c.args.self.now c.loop-u.self c.args.key c.loop-u.invariant.keeps.stays c.requires.key
 
 pub use_before-requires-clause-behind : goal.use_before-requires-clause-behind
 use_before-requires-clause-behind c = λ l e.
     let p = c.args.self.now in
     let h = c.loop-u.invariant in
-    subst (λ n. l < n) (sym h.keeps.stays.passed) (behind_below (rows p) c.loop-u.self.binders.items p.passed c.args.key l c.loop-u.behind h.behind e)
+    subst (λ n. l < n) (sym h.keeps.stays.passed)
+    (behind_below (rows p) c.loop-u.self.binders.items p.passed c.args.key l c.loop-u.behind h.behind e)
 
 pub give-requires-clause-inside : goal.give-requires-clause-inside
-give-requires-clause-inside c = subst (λ n. c.args.binder < n) (sym c.loop-u.invariant.keeps.stays.passed) c.requires.inside
+give-requires-clause-inside c =
+    subst (λ n. c.args.binder < n) (sym c.loop-u.invariant.keeps.stays.passed) c.requires.inside
 
 pub give-requires-clause-key : goal.give-requires-clause-key
-give-requires-clause-key c = key_on c.args.self.now c.loop-u.self c.args.key c.loop-u.invariant.keeps.stays c.requires.key
+give-requires-clause-key c =
+    key_on c.args.self.now c.loop-u.self c.args.key c.loop-u.invariant.keeps.stays c.requires.key
 
 pub give-requires-clause-behind : goal.give-requires-clause-behind
 give-requires-clause-behind c =
-    on (λ R s. IsBehind R c.loop-u.self.binders.items s c.args.key c.loop-u.behind) c.args.self.now c.loop-u.self c.loop-u.invariant.keeps.stays
+    on (λ R s. IsBehind R c.loop-u.self.binders.items s c.args.key c.loop-u.behind) c.args.self.now c.loop-u.self
+    c.loop-u.invariant.keeps.stays
     c.loop-u.invariant.behind
 
 pub give-requires-clause-next : goal.give-requires-clause-next
@@ -173,9 +194,12 @@ returns-clause-binders c = λ i k.
     let p = c.args.self.now in
     let R = rows p in
     let x = c.args.key in
-    let end : not_before (at R p.passed).first (use_before c.loop-u.self.last.items c.loop-u.self.earlier.items x c.loop-u.behind) ≡ None =
+    let end : not_before (at R p.passed).first
+    (use_before c.loop-u.self.last.items c.loop-u.self.earlier.items x c.loop-u.behind) ≡ None =
     sym (read c.at-first.result c.not_before.result c.use_before.result R p.passed
-    (use_before c.loop-u.self.last.items c.loop-u.self.earlier.items x c.loop-u.behind) c.at-first.ensures c.use_before.ensures c.not_before.ensures)
+    (use_before c.loop-u.self.last.items c.loop-u.self.earlier.items x c.loop-u.behind) c.at-first.ensures
+    c.use_before.ensures c.not_before.ensures)
     ∙ none c.not_before.result c.in_default.not-Some in
-    given_all R p.passed (keys_of p) x c.args.binder i c.loop-u.behind p.binders.items c.loop-u.self.binders.items c.loop-u.self.last.items
+    given_all R p.passed (keys_of p) x c.args.binder i c.loop-u.behind p.binders.items c.loop-u.self.binders.items
+    c.loop-u.self.last.items
     c.loop-u.self.earlier.items c.requires.key h.waiting h.behind h.passed end (h.binders i k)

@@ -7,11 +7,13 @@ use Rattle.id_check.proofs.scope.Scopes.resolve.Given as goal
 abbrev pub invariant-loop-u : goal.invariant-loop-u
 invariant-loop-u l = record {
   keeps : Keeps l.initial.self l.self;
-  waiting : AreWaiting (rows l.initial.self) l.initial.self.passed (keys_of l.initial.self) l.self.binders.items l.self.last.items l.self.earlier.items;
+  waiting : AreWaiting (rows l.initial.self) l.initial.self.passed (keys_of l.initial.self) l.self.binders.items
+      l.self.last.items l.self.earlier.items;
   behind : IsBehind (rows l.initial.self) l.self.binders.items l.initial.self.passed l.key l.behind;
   passed : ArePassed (rows l.initial.self) l.initial.self.passed l.key l.behind l.self.binders.items;
   binders : (i : ℕ) → i < length (rows l.initial.self) →
-      IsGiven (rows l.initial.self) l.initial.self.passed l.key l.binder l.initial.self.binders.items l.self.binders.items i;
+      IsGiven (rows l.initial.self) l.initial.self.passed l.key l.binder l.initial.self.binders.items
+      l.self.binders.items i;
 }
 
 abbrev pub decreases-loop-u : goal.decreases-loop-u

@@ -22,13 +22,15 @@ enter-requires-clause-untaken c =
     subst (IsOpen (rows p) p.passed p.passed) (sym c.as_slice.ensures.value) c.requires.untaken
 
 pub close-requires-clause-left : goal.close-requires-clause-left
-close-requires-clause-left c = on (λ R s. s < length R) c.args.self.now c.enter.new.self c.enter.ensures.stays c.requires.left
+close-requires-clause-left c =
+    on (λ R s. s < length R) c.args.self.now c.enter.new.self c.enter.ensures.stays c.requires.left
 
 pub close-requires-clause-scope : goal.close-requires-clause-scope
 close-requires-clause-scope c =
     let p = c.args.self.now in
     on (λ R s. is_scope (at R s).node ≡ true) p c.enter.new.self c.enter.ensures.stays
-    (by_node is_scope (rows p) p.passed c.at.result c.is_scope.result c.at.ensures c.is_scope.ensures ∙ c.if-is_scope.true)
+    (by_node is_scope (rows p) p.passed c.at.result c.is_scope.result c.at.ensures c.is_scope.ensures
+    ∙ c.if-is_scope.true)
 
 pub close-requires-clause-taken : goal.close-requires-clause-taken
 close-requires-clause-taken c = c.enter.ensures.taken
@@ -40,7 +42,8 @@ close-requires-clause-untaken c =
     (subst (IsOpen (rows p) p.passed p.passed) (sym c.as_slice-then-is_scope.ensures.value) c.requires.untaken)
 
 pub returns-then-is_scope-clause-passes : goal.returns-then-is_scope-clause-passes
-returns-then-is_scope-clause-passes c = passes_through c.args.self.now c.enter.new.self c.close.new.self c.enter.ensures.stays c.close.ensures.passes
+returns-then-is_scope-clause-passes c =
+    passes_through c.args.self.now c.enter.new.self c.close.new.self c.enter.ensures.stays c.close.ensures.passes
 
 pub returns-then-is_scope-clause-begun : goal.returns-then-is_scope-clause-begun
 returns-then-is_scope-clause-begun c = c.close.ensures.begun
@@ -61,7 +64,8 @@ kept-kept-requires c =
     let passes = passes_through p c.enter.new.self n c.enter.ensures.stays c.close.ensures.passes in
     let ps = c.args.untaken.now.items in
     let hs = n.held.items in
-    subst (λ qs. (j : ℕ) → j < length qs → get_or qs j 0 < length c.as_slice-then-is_scope-3.result.now) (sym c.as_slice-then-is_scope-2.ensures.value)
+    subst (λ qs. (j : ℕ) → j < length qs
+    → get_or qs j 0 < length c.as_slice-then-is_scope-3.result.now) (sym c.as_slice-then-is_scope-2.ensures.value)
     (subst (λ gs. (j : ℕ) → j < length ps → get_or ps j 0 < length gs) (sym c.as_slice-then-is_scope-3.ensures.value)
     (λ j less. open_below (rows p) p.passed j hs ps c.requires.left (closed p n passes).long c.requires.untaken less))
 
@@ -79,7 +83,8 @@ returns-then-is_scope-clause-untaken c =
     let rows = c.as_slice-then-is_scope-2.ensures.value in
     let held = c.as_slice-then-is_scope-3.ensures.value in
     subst (IsOpen R s (s + 1)) (sym c.truncate.ensures.items)
-    (open_kept R s k hs ps c.requires.left (closed p n passes) (subst (λ qs. k ≤ length qs) rows c.kept-kept.ensures.long)
+    (open_kept R s k hs ps c.requires.left (closed p n passes)
+    (subst (λ qs. k ≤ length qs) rows c.kept-kept.ensures.long)
     (subst (λ qs. (j : ℕ) → k ≤ j → j < length qs → get_or hs (get_or qs j 0) false ≡ true) rows
     (subst (λ gs. (j : ℕ) → k ≤ j → j < length c.as_slice-then-is_scope-2.result.now →
     get_or gs (get_or c.as_slice-then-is_scope-2.result.now j 0) false ≡ true) held c.kept-kept.ensures.behind))
@@ -88,7 +93,8 @@ returns-then-is_scope-clause-untaken c =
 pub wait-requires-clause-scope : goal.wait-requires-clause-scope
 wait-requires-clause-scope c =
     let p = c.args.self.now in
-    by_node is_scope (rows p) p.passed c.at.result c.is_scope.result c.at.ensures c.is_scope.ensures ∙ c.if-is_scope.false
+    by_node is_scope (rows p) p.passed c.at.result c.is_scope.result c.at.ensures c.is_scope.ensures
+    ∙ c.if-is_scope.false
 
 pub wait-requires-clause-begun : goal.wait-requires-clause-begun
 wait-requires-clause-begun c = c.requires.begun
@@ -111,4 +117,5 @@ returns-else-is_scope-clause-first c =
     let s = p.passed in
     let no = by_node is_scope R s c.at.result c.is_scope.result c.at.ensures c.is_scope.ensures ∙ c.if-is_scope.false in
     subst (Notes p.first (seconds R s s)) (sym c.wait.ensures.first)
-    (subst (λ cs. Notes p.first cs p.first) (sym (seconds-none R s s (λ b less. keeps_no_scope R s b no))) (Notes-none p.first))
+    (subst (λ cs. Notes p.first cs p.first) (sym (seconds-none R s s (λ b less. keeps_no_scope R s b no)))
+    (Notes-none p.first))

@@ -31,10 +31,11 @@ returns-in_default-clause-begun c =
     taking_none (rows p) p.passed p.bound.items p.binders.items c.requires.scope c.requires.begun
 
 -- the key by which the row waits is one of those that are counted
-key_low : (p : Scopes) (x : ℕ) (r : Row) (o : Option ℕ) → r ≡ at (rows p) p.passed → o ≡ key_of r.node → o ≡ Some x → p.passed < length (rows p)
-    → x < keys_of p
+key_low : (p : Scopes) (x : ℕ) (r : Row) (o : Option ℕ) → r ≡ at (rows p) p.passed → o ≡ key_of r.node → o ≡ Some x
+    → p.passed < length (rows p) → x < keys_of p
 key_low p x r o d e f left =
-    key_below (at (rows p) p.passed).node x (length p.rows.now.table.now.names.items) (by_node key_of (rows p) p.passed r o d e ∙ f)
+    key_below (at (rows p) p.passed).node x (length p.rows.now.table.now.names.items)
+    (by_node key_of (rows p) p.passed r o d e ∙ f)
     (λ y g. (are_names p.rows.now).used p.passed y left g)
 
 pub key_of-requires : goal.key_of-requires
@@ -46,13 +47,15 @@ key_of-requires c = λ k e.
 pub index-requires : goal.index-requires
 index-requires c =
     let p = c.args.self.now in
-    let less = key_low p c.in-Some.key c.at.result c.key_of.result c.at.ensures c.key_of.ensures c.in-Some.is c.requires.left in
+    let less =
+    key_low p c.in-Some.key c.at.result c.key_of.result c.at.ensures c.key_of.ensures c.in-Some.is c.requires.left in
     omega (arith, less, p.waiting.long_last, p.last.ok.0)
 
 pub index_mut-requires-in-Some : goal.index_mut-requires-in-Some
 index_mut-requires-in-Some c =
     let p = c.args.self.now in
-    let less = key_low p c.in-Some.key c.at.result c.key_of.result c.at.ensures c.key_of.ensures c.in-Some.is c.requires.left in
+    let less =
+    key_low p c.in-Some.key c.at.result c.key_of.result c.at.ensures c.key_of.ensures c.in-Some.is c.requires.left in
     omega (arith, less, p.waiting.long_last, p.last.ok.0)
 
 pub invariant_of-self : goal.invariant_of-self
@@ -73,7 +76,8 @@ invariant_of-self c =
       named = p.named;
       waiting = subst (λ o. AreWaiting R (s + 1) (keys_of p) p.binders.items (set ls x (Some s)) (set es s o)) read
           (waiting_more R s (keys_of p) x p.binders.items ls es c.requires.left less is
-          ((taking_bound R s p.bound.items p.binders.items c.requires.begun).each s c.requires.left ∙ binder_at-none R s s (omega arith)) p.waiting);
+          ((taking_bound R s p.bound.items p.binders.items c.requires.begun).each s c.requires.left
+          ∙ binder_at-none R s s (omega arith)) p.waiting);
     }
 
 pub invariant_of-self-in_default : goal.invariant_of-self-in_default
@@ -86,5 +90,6 @@ invariant_of-self-in_default c =
       closed = held_no_scope R s p.held.items c.requires.scope p.closed;
       named = p.named;
       waiting = waiting_same R s (keys_of p) p.binders.items p.last.items p.earlier.items
-          (by_node key_of R s c.at.result c.key_of.result c.at.ensures c.key_of.ensures ∙ none c.key_of.result c.in_default.not-Some) p.waiting;
+          (by_node key_of R s c.at.result c.key_of.result c.at.ensures c.key_of.ensures
+          ∙ none c.key_of.result c.in_default.not-Some) p.waiting;
     }

@@ -7,4 +7,5 @@ use Rattle.id_check.proofs.typed.Typed.note_call.Goals as goal
 pub has_params-requires : goal.has_params-requires
 has_params-requires c =
     let t = c.args.self.now in
-    callee_def (list_of t.rows.now) (get_or t.binders.now c.args.enter None) c.in-Some.head (sym c.callee.ensures ∙ c.in-Some.is)
+    callee_def (list_of t.rows.now) (get_or t.binders.now c.args.enter None) c.in-Some.head (sym c.callee.ensures
+    ∙ c.in-Some.is)

@@ -27,6 +27,9 @@ returns-in-Arg c =
     let k = c.in-Arg.index in
     let v = c.in-Arg.value in
     let is : (at R c.args.i).node ≡ Arg e k v = ap (λ (r : Row). r.node) (sym c.at-row.ensures) ∙ c.in-Arg.is in
-    let less = part_of e t.rows.now.table.now.formed (in_rows R c.args.i (λ q. let d : Head ≡ Arg e k v = sym q ∙ is in cc)) is (inl refl) in
+    let less =
+    part_of e t.rows.now.table.now.formed (in_rows R c.args.i (λ q. let d : Head ≡ Arg e k v = sym q ∙ is in cc)) is
+    (inl refl) in
     subst (Noted t c.args.i f g) (sym is)
-    (subst (λ n. Notes f (wrong_argument R (kind t) (callee R (binder t e)) n k v) g) (t.counted.each e less) c.note_argument.ensures)
+    (subst (λ n. Notes f (wrong_argument R (kind t) (callee R (binder t e)) n k v) g) (t.counted.each e less)
+    c.note_argument.ensures)

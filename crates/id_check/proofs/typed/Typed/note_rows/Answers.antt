@@ -14,4 +14,5 @@ loop-i-preserved c =
     let i = c.loop-i.i in
     subst (λ n. Notes c.args.first.now (causes_below R (binder t) (kind t) n) c.note_row.new.first) (sym (add-one i))
     (Notes-append c.args.first.now c.loop-i.first c.note_row.new.first (causes_below R (binder t) (kind t) i)
-    (causes_in R (kind t) (binder t (user_of i (at R i).node)) (at R i).place (at R i).node) c.loop-i.invariant c.note_row.ensures)
+    (causes_in R (kind t) (binder t (user_of i (at R i).node)) (at R i).place (at R i).node) c.loop-i.invariant
+    c.note_row.ensures)

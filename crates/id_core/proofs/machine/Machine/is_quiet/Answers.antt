@@ -13,7 +13,9 @@ returns-then-is_empty c =
     rw (← ap (λ v. v.world) c.self.view_is) (
       λ yes. record {
         empty = nothing;
-        went = All-map (λ e. AllWent e.events) (λ e. e.state) elements (rw c.as_slice.ensures.value at (c.all_went.ensures.0 yes));
+        went = All-map (λ e. AllWent e.events) (λ e. e.state) elements
+            (rw c.as_slice.ensures.value at (c.all_went.ensures.0 yes));
       },
-      λ quiet. c.all_went.ensures.1 (rw c.as_slice.ensures.value (All-from_map (λ e. AllWent e.events) (λ e. e.state) elements quiet.went)),
+      λ quiet. c.all_went.ensures.1
+          (rw c.as_slice.ensures.value (All-from_map (λ e. AllWent e.events) (λ e. e.state) elements quiet.went)),
     )

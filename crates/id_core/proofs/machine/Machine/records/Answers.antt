@@ -10,7 +10,10 @@ pub invariant_of-result : goal.invariant_of-result
 invariant_of-result c =
     let elements = c.elements.result.now in
     let same = c.graph.ensures.value ∙ ap (λ (v : MachineView). v.graph) c.self.view_is in
-    record { of = subst (λ (g : Parts). AreOf g elements) (sym same) (AreElements-of _ _ elements c.elements.ensures.elements) }
+    record {
+      of =
+          subst (λ (g : Parts). AreOf g elements) (sym same) (AreElements-of _ _ elements c.elements.ensures.elements);
+    }
 
 pub returns-clause-graph : goal.returns-clause-graph
 returns-clause-graph c = c.graph.ensures.value ∙ ap (λ (v : MachineView). v.graph) c.self.view_is

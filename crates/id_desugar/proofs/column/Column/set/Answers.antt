@@ -7,5 +7,6 @@ use Rattle.id_desugar.proofs.column.Column.set.Goals as goal
 pub returns : goal.returns
 returns c =
     let row = c.args.row in
-    map-set row_of c.self.inside.numbers.items row c.number_of.result ∙ ap (λ os. slice_set os row (row_of c.number_of.result)) c.self.view_is
+    map-set row_of c.self.inside.numbers.items row c.number_of.result
+    ∙ ap (λ os. slice_set os row (row_of c.number_of.result)) c.self.view_is
     ∙ ap (slice_set c.args.self.now row) c.number_of.ensures

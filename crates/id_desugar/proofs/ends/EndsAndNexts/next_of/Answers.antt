@@ -4,4 +4,6 @@ use Rattle.id_desugar.proofs.EndsLemmas.{next_of-kept}
 use Rattle.id_desugar.proofs.ends.EndsAndNexts.next_of.Goals as goal
 
 pub returns : goal.returns
-returns c = c.get_or_first.ensures ∙ next_of-kept c.args.self.now.ends.checked.now c.args.self.now.nexts c.args.variable c.args.self.now.nexted
+returns c =
+    c.get_or_first.ensures
+    ∙ next_of-kept c.args.self.now.ends.checked.now c.args.self.now.nexts c.args.variable c.args.self.now.nexted

@@ -4,4 +4,6 @@ use Rattle.id_desugar.proofs.EndsLemmas.{end_of-kept}
 use Rattle.id_desugar.proofs.kernel.Kernel.end_of.Goals as goal
 
 pub returns : goal.returns
-returns c = c.get_or_first.ensures ∙ end_of-kept c.args.self.now.checked.now c.args.self.now.ends c.args.head c.args.self.now.ended
+returns c =
+    c.get_or_first.ensures
+    ∙ end_of-kept c.args.self.now.checked.now c.args.self.now.ends c.args.head c.args.self.now.ended

@@ -2,7 +2,8 @@ use Rattle.std.proofs.Common.{◌≡◌, ◌-◌, ◌<◌, ◌∙◌, Ok, Err, l
 use Rattle.id_step.proofs.StretchesLemmas.{behind_long}
 use Rattle.id_elements.specs.declared.home.Home.{Home}
 use Rattle.id_elements.specs.Passing.{IsSentOn}
-use Rattle.id_elements.proofs.WorkersLemmas.{fits_for, IsKept-alone, IsKept-failed, IsKept-sent, IsKept-unsent, count_given, number_given}
+use Rattle.id_elements.proofs.WorkersLemmas.{fits_for, IsKept-alone, IsKept-failed, IsKept-sent, IsKept-unsent}
+use Rattle.id_elements.proofs.WorkersLemmas.{count_given, number_given}
 use Rattle.id_elements.proofs.worker.Worker.handle.Goals as goal
 
 -- no stamp is left, or memory was wanting
@@ -13,7 +14,8 @@ invariant_of-self g c =
     let own = w.own.messages in
     let p = c.in-Err.ensures in (
       IsKept-failed w.goes w.doors.items w.element own w.came.messages w.back.messages w.stray.messages w.letters.items
-          (rw (← c.self.view_is) at c.requires.goes) c.self.invariant.0 c.args.limit c.args.position n.list.messages n.self _ p,
+          (rw (← c.self.view_is) at c.requires.goes) c.self.invariant.0 c.args.limit c.args.position n.list.messages
+          n.self _ p,
       c.self.invariant.1 ∙ sym (number_given c.args.limit c.args.position own w.element n.list.messages n.self _ p),
       c.self.invariant.2 ∙ sym (count_given c.args.limit c.args.position own w.element n.list.messages n.self _ p),
     )
@@ -26,7 +28,8 @@ invariant_of-self-then-not-went g c =
     let own = w.own.messages in
     let p = c.in-Ok.ensures in (
       IsKept-failed w.goes w.doors.items w.element own w.came.messages w.back.messages w.stray.messages w.letters.items
-          (rw (← c.self.view_is) at c.requires.goes) c.self.invariant.0 c.args.limit c.args.position n.list.messages n.self _ p,
+          (rw (← c.self.view_is) at c.requires.goes) c.self.invariant.0 c.args.limit c.args.position n.list.messages
+          n.self _ p,
       c.self.invariant.1 ∙ sym (number_given c.args.limit c.args.position own w.element n.list.messages n.self _ p),
       c.self.invariant.2 ∙ sym (count_given c.args.limit c.args.position own w.element n.list.messages n.self _ p),
     )
@@ -39,7 +42,8 @@ invariant_of-self-then-self-eq1 g c =
     let own = w.own.messages in
     let p = c.in-Ok.ensures in (
       IsKept-alone w.goes w.doors.items w.element own w.came.messages w.back.messages w.stray.messages w.letters.items
-          (rw (← c.self.view_is) at c.requires.goes) c.self.invariant.0 c.args.limit c.args.position n.list.messages n.self _ p
+          (rw (← c.self.view_is) at c.requires.goes) c.self.invariant.0 c.args.limit c.args.position n.list.messages
+          n.self _ p
           c.if-not-went.false (sym c.self.invariant.2 ∙ c.if-self-eq1.true),
       c.self.invariant.1 ∙ sym (number_given c.args.limit c.args.position own w.element n.list.messages n.self _ p),
       c.self.invariant.2 ∙ sym (count_given c.args.limit c.args.position own w.element n.list.messages n.self _ p),
@@ -59,9 +63,12 @@ invariant_of-self-in-Ok-send_on g c =
     let long = behind_long c.args.position own n.list.messages there others in
     let from : length n.list.messages - sent ≡ length own - 1 = omega (arith, long) in (
       IsKept-sent w.goes w.doors.items w.element own w.came.messages w.back.messages w.stray.messages w.letters.items
-          (rw (← c.self.view_is) at c.requires.goes) c.self.invariant.0 c.args.limit c.args.position n.list.messages n.self _ p
-          sent s.own.messages s.back.messages s.letters.items w.home.number c.self.invariant.1 c.if-not-went.false from others
-          (subst (λ (h : Home). IsSentOn h.number sent n.list.messages w.back.messages w.letters.items s.own.messages s.back.messages s.letters.items (Ok tt))
+          (rw (← c.self.view_is) at c.requires.goes) c.self.invariant.0 c.args.limit c.args.position n.list.messages
+          n.self _ p
+          sent s.own.messages s.back.messages s.letters.items w.home.number c.self.invariant.1 c.if-not-went.false from
+          others
+          (subst (λ (h : Home). IsSentOn h.number sent n.list.messages w.back.messages w.letters.items s.own.messages
+          s.back.messages s.letters.items (Ok tt))
           c.near_of-near.ensures c.in-Ok-send_on.ensures),
       c.self.invariant.1 ∙ sym (number_given c.args.limit c.args.position own w.element n.list.messages n.self _ p),
       c.self.invariant.2 ∙ sym (count_given c.args.limit c.args.position own w.element n.list.messages n.self _ p),
@@ -77,9 +84,11 @@ invariant_of-self-in-Err-send_on g c =
     let p = c.in-Ok.ensures in
     let sent = c.len.result - (c.len-others.result - 1) in (
       IsKept-unsent w.goes w.doors.items w.element own w.came.messages w.back.messages w.stray.messages w.letters.items
-          (rw (← c.self.view_is) at c.requires.goes) c.self.invariant.0 c.args.limit c.args.position n.list.messages n.self _ p
+          (rw (← c.self.view_is) at c.requires.goes) c.self.invariant.0 c.args.limit c.args.position n.list.messages
+          n.self _ p
           sent s.own.messages s.back.messages s.letters.items w.home.number c.in-Err-send_on.field-0
-          (subst (λ (h : Home). IsSentOn h.number sent n.list.messages w.back.messages w.letters.items s.own.messages s.back.messages s.letters.items
+          (subst (λ (h : Home). IsSentOn h.number sent n.list.messages w.back.messages w.letters.items s.own.messages
+          s.back.messages s.letters.items
           (Err c.in-Err-send_on.field-0)) c.near_of-near.ensures c.in-Err-send_on.ensures),
       c.self.invariant.1 ∙ sym (number_given c.args.limit c.args.position own w.element n.list.messages n.self _ p),
       c.self.invariant.2 ∙ sym (count_given c.args.limit c.args.position own w.element n.list.messages n.self _ p),
@@ -88,4 +97,5 @@ invariant_of-self-in-Err-send_on g c =
 -- all messages of its own fit
 pub run_from-requires-clause-fit : goal.run_from-requires-clause-fit
 run_from-requires-clause-fit g c = λ turns.
-    fits_for c.self.inside.element c.self.inside.own.messages (c.self.invariant.0.own (rw (← c.self.view_is) at c.requires.goes))
+    fits_for c.self.inside.element c.self.inside.own.messages
+    (c.self.invariant.0.own (rw (← c.self.view_is) at c.requires.goes))

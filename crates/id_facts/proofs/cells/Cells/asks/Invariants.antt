@@ -7,5 +7,6 @@ use Rattle.id_facts.proofs.cells.Cells.asks.Given as goal
 
 abbrev pub invariant-loop-number : goal.invariant-loop-number
 invariant-loop-number l =
-    l.points.items ++ told (ask_by l.name l.index) (items l.self) (drop l.number-index (chain l.self (chain_by Asks l.name l.index))) ≡
+    l.points.items
+    ++ told (ask_by l.name l.index) (items l.self) (drop l.number-index (chain l.self (chain_by Asks l.name l.index))) ≡
     told (ask_by l.name l.index) (items l.self) (chain l.self (chain_by Asks l.name l.index))

@@ -5,4 +5,6 @@ use Rattle.id_facts.specs.RowFacts.{chain_at}
 use Rattle.id_facts.proofs.cells.Cells.find.Given as goal
 
 abbrev pub invariant-loop-number : goal.invariant-loop-number
-invariant-loop-number l = first_on (items l.self) l.path l.row (drop l.number-index (chain l.self (chain_at l.path l.row))) ≡ find l.self l.path l.row
+invariant-loop-number l =
+    first_on (items l.self) l.path l.row (drop l.number-index (chain l.self (chain_at l.path l.row)))
+    ≡ find l.self l.path l.row

@@ -8,5 +8,6 @@ use Rattle.id_facts.proofs.cells.Cells.named.Given as goal
 
 abbrev pub invariant-loop-number : goal.invariant-loop-number
 invariant-loop-number l =
-    l.points.items ++ told (named_by l.name) (items l.self) (drop l.number-index (chain l.self (chain_by Named l.name (pos 0)))) ≡
+    l.points.items
+    ++ told (named_by l.name) (items l.self) (drop l.number-index (chain l.self (chain_by Named l.name (pos 0)))) ≡
     told (named_by l.name) (items l.self) (chain l.self (chain_by Named l.name (pos 0)))

@@ -8,5 +8,6 @@ use Rattle.id_facts.proofs.cells.Cells.shapes.Given as goal
 
 abbrev pub invariant-loop-number : goal.invariant-loop-number
 invariant-loop-number l =
-    l.shapes.items ++ told (bounds_by l.name) (items l.self) (drop l.number-index (chain l.self (chain_by Shapes l.name (pos 0)))) ≡
+    l.shapes.items
+    ++ told (bounds_by l.name) (items l.self) (drop l.number-index (chain l.self (chain_by Shapes l.name (pos 0)))) ≡
     told (bounds_by l.name) (items l.self) (chain l.self (chain_by Shapes l.name (pos 0)))

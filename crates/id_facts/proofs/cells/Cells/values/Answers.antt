@@ -26,12 +26,15 @@ loop-number-preserved c =
     let asked = value_by c.args.path c.args.row in
     let same = c.of-number-items.ensures ∙ ap (chain cells) c.chain_at.ensures.chain in
     let told_by = c.value_at-in-loop-number.ensures ∙ ap asked c.fact.ensures in
-    told-more asked (items cells) (chain cells (chain_at c.args.path c.args.row)) c.of-number-items.result.now c.loop-number.number-index _ _ _ _ same
+    told-more asked (items cells) (chain cells (chain_at c.args.path c.args.row)) c.of-number-items.result.now
+    c.loop-number.number-index _ _ _ _ same
     c.loop-number-test.true
     (elim c.match-value_at-2.branch [
-      | in-Some-value_at+in_ok-push-2 w ↦ listed-some c.value_at-in-loop-number.result _ w.in-Some-value_at.value _ _ told_by w.in-Some-value_at.is
+      | in-Some-value_at+in_ok-push-2 w ↦ listed-some c.value_at-in-loop-number.result _ w.in-Some-value_at.value _ _
+          told_by w.in-Some-value_at.is
           (ap (λ v. v.items) w.values-is ∙ w.in_ok-push-2.ensures.items)
-      | in_default-value_at w ↦ listed-none c.value_at-in-loop-number.result _ _ _ told_by w.in_default-value_at.is (ap (λ v. v.items) w.values-is)
+      | in_default-value_at w ↦ listed-none c.value_at-in-loop-number.result _ _ _ told_by w.in_default-value_at.is
+          (ap (λ v. v.items) w.values-is)
     ])
     c.loop-number.invariant
 
@@ -41,5 +44,6 @@ returns c =
     let asked = value_by c.args.path c.args.row in
     let is = chain cells (chain_at c.args.path c.args.row) in
     let same = c.of-number-items.ensures ∙ ap (chain cells) c.chain_at.ensures.chain in
-    told-all asked (items cells) is c.of-number-items.result.now c.loop-number.number-index _ _ same c.loop-number-test.false c.loop-number.invariant
+    told-all asked (items cells) is c.of-number-items.result.now c.loop-number.number-index _ _ same
+    c.loop-number-test.false c.loop-number.invariant
     ∙ ap (λ x. or_these x (told asked (items cells) is)) (sym c.in_default.is ∙ c.value_at.ensures)

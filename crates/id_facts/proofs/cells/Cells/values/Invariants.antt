@@ -6,5 +6,6 @@ use Rattle.id_facts.proofs.cells.Cells.values.Given as goal
 
 abbrev pub invariant-loop-number : goal.invariant-loop-number
 invariant-loop-number l =
-    l.values.items ++ told (value_by l.path l.row) (items l.self) (drop l.number-index (chain l.self (chain_at l.path l.row))) ≡
+    l.values.items
+    ++ told (value_by l.path l.row) (items l.self) (drop l.number-index (chain l.self (chain_at l.path l.row))) ≡
     told (value_by l.path l.row) (items l.self) (chain l.self (chain_at l.path l.row))

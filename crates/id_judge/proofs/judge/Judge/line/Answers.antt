@@ -21,6 +21,8 @@ pub returns-in-Err-clause-refuses : goal.returns-in-Err-clause-refuses
 returns-in-Err-clause-refuses c =
     let j = c.args.self.now in
     let why : IsLineCause j.bench.graph (length j.bench.elements) (world_in j.bench) c.args.text.now c.in-Err.cause =
-    subst (λ r. IfErr r (IsLineCause j.bench.graph (length j.bench.elements) (world_in j.bench) c.args.text.now)) c.in-Err.is
+    subst (λ r. IfErr r (IsLineCause j.bench.graph (length j.bench.elements) (world_in j.bench) c.args.text.now))
+    c.in-Err.is
     c.in_ok-tail.ensures.cause in
-    subst (λ (x : Cause). Refuses j c.args.text.now x) (sym c.cause_for.ensures) (line_refused j c.args.text.now c.in-Err.cause c.requires.some why)
+    subst (λ (x : Cause). Refuses j c.args.text.now x) (sym c.cause_for.ensures)
+    (line_refused j c.args.text.now c.in-Err.cause c.requires.some why)

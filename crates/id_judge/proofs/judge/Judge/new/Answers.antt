@@ -12,7 +12,8 @@ returns-clause-ready c =
     let b = c.in_ok-bench.bench in record {
       bench = h.bench;
       stamps =
-          stamps_first c.args.count c.in_ok-stamps.stamps.items (world_in b) c.in_ok-stamps.ensures (ap (λ (w : World). w.elements) h.world);
+          stamps_first c.args.count c.in_ok-stamps.stamps.items (world_in b) c.in_ok-stamps.ensures
+          (ap (λ (w : World). w.elements) h.world);
     }
 
 pub returns-clause-read : goal.returns-clause-read

@@ -24,7 +24,9 @@ index-events-requires c =
     let are = recursion_from_All (IsPlace rs) ps c.self.invariant in
     let below : c.args.position < length (events_at rs ps) = omega (arith, ap length c.self.view_is) in
     let there = place_there rs ps c.args.position c.index-place.result.now are below c.index-place.ensures in
-    let within = place_record rs c.index-place.result.now (each-get (IsPlace rs) ps c.args.position c.index-place.result.now are there) in
+    let within =
+    place_record rs c.index-place.result.now
+    (each-get (IsPlace rs) ps c.args.position c.index-place.result.now are there) in
     let held : vec_len c.self.inside.records ≡ length rs = grind (arith, common_steps) in
     omega (arith, within, held)
 
@@ -48,4 +50,6 @@ returns c =
     let there = place_there rs ps c.args.position c.index-place.result.now are below c.index-place.ensures in
     let is_place = each-get (IsPlace rs) ps c.args.position c.index-place.result.now are there in
     let log = slice_get_read rs _ _ _ refl (place_record rs c.index-place.result.now is_place) c.index-events.ensures in
-    rw (← c.self.view_is) (event_there rs ps c.args.position c.index-place.result.now c.index-events.result.now are there log ∙ c.event.ensures)
+    rw (← c.self.view_is)
+    (event_there rs ps c.args.position c.index-place.result.now c.index-events.result.now are there log
+    ∙ c.event.ensures)

@@ -16,5 +16,6 @@ pub returns-clause-short : goal.returns-clause-short
 returns-clause-short c =
     let digits : length (decimal c.args.n) ≤ 20 = search (rules, length-decimal-le 20) in
     let s = c.self.inside in
-    let whole = ap length c.write_digits-self-inside.ensures.written ∙ length-append (decimal c.args.n) (drop s.start s.bytes) in
+    let whole =
+    ap length c.write_digits-self-inside.ensures.written ∙ length-append (decimal c.args.n) (drop s.start s.bytes) in
     omega (arith, digits, whole, ap length c.self.view_is)

@@ -6,4 +6,5 @@ use Rattle.id_why.proofs.known.Known.asks.Given as goal
 
 abbrev pub invariant-loop-number : goal.invariant-loop-number
 invariant-loop-number l =
-    l.cells.items ++ told (ask_by l.point) (known_facts l.self) (drop l.number-index (numbers_of l.self l.point)) ≡ asks l.self l.point
+    l.cells.items ++ told (ask_by l.point) (known_facts l.self) (drop l.number-index (numbers_of l.self l.point))
+    ≡ asks l.self l.point

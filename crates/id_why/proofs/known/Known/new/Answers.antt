@@ -8,10 +8,14 @@ use Rattle.id_why.proofs.known.Known.new.Goals as goal
 
 pub loop-number-init : goal.loop-number-init
 loop-number-init c =
-    let same = c.in_ok-add_all.ensures.items ∙ ap (λ fs. fs ++ c.as_slice.result.now) c.in_ok-cells.ensures.none ∙ c.as_slice.ensures in
+    let same =
+    c.in_ok-add_all.ensures.items ∙ ap (λ fs. fs ++ c.as_slice.result.now) c.in_ok-cells.ensures.none
+    ∙ c.as_slice.ensures in
     record {
       facts = same;
-      indexed = index-none c.args.checked.now _ c.len.result (c.in_ok-add_all.ensures.chained c.in_ok-cells.ensures.chained) c.in_ok-new.ensures
+      indexed =
+          index-none c.args.checked.now _ c.len.result (c.in_ok-add_all.ensures.chained c.in_ok-cells.ensures.chained)
+          c.in_ok-new.ensures
           c.in_ok-new-2.ensures (c.len.ensures ∙ ap length (sym same)) c.new-4.ensures.items;
     }
 
@@ -21,7 +25,8 @@ loop-number-preserved c =
     let next : n + 1 ≡ suc n = omega arith in
     let same = c.loop-number.invariant.facts in
     let long = ap length same in
-    let within : n < length (known_facts c.loop-number.known) = (let l = c.loop-number-test.true in let q = c.len-number-end.ensures in omega arith) in
+    let within : n < length (known_facts c.loop-number.known) =
+    (let l = c.loop-number-test.true in let q = c.len-number-end.ensures in omega arith) in
     record {
       facts = ap items c.in_ok-add.ensures.cells ∙ same;
       indexed = index-more c.args.checked.now c.loop-number.known c.add.new.self n (n + 1) c.fact.result next within
