@@ -20,8 +20,7 @@ use Rattle.id_flight.specs.declared.parcel.What.TheVariants.{Plain, Structure as
 use Rattle.id_flight.specs.Parcels.{IsPacked, IsThere, IsWithin, own, place_of, said, told, unpacked}
 
 -- what says something does not stand aside
-there-said : (asides : List Message) (t : Tag) (q : Port) (v : Short) (w : What) (x : Payload) → said t q v w ≡ Some x
-    → IsThere asides w
+there-said : (asides : List Message) (t : Tag) (q : Port) (v : Short) (w : What) (x : Payload) → said t q v w ≡ Some x → IsThere asides w
 there-said asides t q v Plain x says = tt
 there-said asides t q v (Named e s l h) x says = tt
 there-said asides t q v (Address e s l h) x says = tt
@@ -40,14 +39,12 @@ packed-said m p says whole = record {
 packed-narrowed : (m : Message) (v : Short) (w : What) (t : Tag) (q : Port) (p : Parcel) → said t q v w ≡ Some m.payload
     → p.what ≡ w → p.token.value ≡ v → p.token.port ≡ q → tag_in p.token ≡ t → own p m.payload ≡ m → IsPacked m p
 packed-narrowed m v w t q p says what value port tag whole =
-    packed-said m p (ap (λ u. said u p.token.port p.token.value p.what) tag
-    ∙ ap (λ r. said t r p.token.value p.what) port
+    packed-said m p (ap (λ u. said u p.token.port p.token.value p.what) tag ∙ ap (λ r. said t r p.token.value p.what) port
     ∙ ap (λ u. said t q u p.what) value ∙ ap (said t q v) what ∙ says) whole
 
-pub packed-if : (m : Message) (v : Short) (w : What) (t : Tag) (q : Port) (o : Option Parcel)
-    → said t q v w ≡ Some m.payload → IfSome o (λ p. p.what ≡ w) → IfSome o (λ p. p.token.value ≡ v)
-    → IfSome o (λ p. p.token.port ≡ q) → IfSome o (λ p. tag_in p.token ≡ t) → IfSome o (λ p. own p m.payload ≡ m)
-    → IfSome o (λ p. IsPacked m p)
+pub packed-if : (m : Message) (v : Short) (w : What) (t : Tag) (q : Port) (o : Option Parcel) → said t q v w ≡ Some m.payload
+    → IfSome o (λ p. p.what ≡ w) → IfSome o (λ p. p.token.value ≡ v) → IfSome o (λ p. p.token.port ≡ q)
+    → IfSome o (λ p. tag_in p.token ≡ t) → IfSome o (λ p. own p m.payload ≡ m) → IfSome o (λ p. IsPacked m p)
 packed-if m v w t q None says what value port tag whole = tt
 packed-if m v w t q (Some p) says what value port tag whole = packed-narrowed m v w t q p says what value port tag whole
 
@@ -61,8 +58,8 @@ all-rest P p ps qs is all k d below =
 abbrev pub Keeps : List Message → List Message → Type 0
 Keeps asides more = (p : Parcel) → IsWithin asides p → IsWithin more p × (unpacked more p ≡ unpacked asides p)
 
-messages-kept_each : (asides more : List Message) → Keeps asides more → (ps : List Parcel)
-    → AllByRecursion (IsWithin asides) ps → map (unpacked more) ps ≡ map (unpacked asides) ps
+messages-kept_each : (asides more : List Message) → Keeps asides more → (ps : List Parcel) → AllByRecursion (IsWithin asides) ps
+    → map (unpacked more) ps ≡ map (unpacked asides) ps
 messages-kept_each asides more keeps [] within = refl
 messages-kept_each asides more keeps (p ∷ ps) within =
     ap (λ m. m ∷ map (unpacked more) ps) ((keeps p within.0).1)
@@ -70,12 +67,10 @@ messages-kept_each asides more keeps (p ∷ ps) within =
 
 pub messages-kept : (asides more : List Message) (ps : List Parcel) → Keeps asides more → All (IsWithin asides) ps
     → map (unpacked more) ps ≡ map (unpacked asides) ps
-messages-kept asides more ps keeps within =
-    messages-kept_each asides more keeps ps (recursion_from_All (IsWithin asides) ps within)
+messages-kept asides more ps keeps within = messages-kept_each asides more keeps ps (recursion_from_All (IsWithin asides) ps within)
 
 -- and so they are all within
-pub all-kept : (asides more : List Message) (ps : List Parcel) → Keeps asides more → All (IsWithin asides) ps
-    → All (IsWithin more) ps
+pub all-kept : (asides more : List Message) (ps : List Parcel) → Keeps asides more → All (IsWithin asides) ps → All (IsWithin more) ps
 all-kept asides more ps keeps within k d below = (keeps (get_or ps k d) (within k d below)).0
 
 -- the last of all, and those before it, have what all have
@@ -90,9 +85,8 @@ all-before P ps qs p is all k d below =
     subst P (get_or-append ps (p ∷ []) d k below) (every k d (omega (arith, below, length-append ps (p ∷ []))))
 
 -- a parcel more at the end is its message more
-pub messages-more : (asides more : List Message) (ps qs : List Parcel) (p : Parcel) (m : Message) → Keeps asides more
-    → All (IsWithin asides) ps → unpacked more p ≡ m → qs ≡ ps ++ p ∷ []
-    → map (unpacked more) qs ≡ map (unpacked asides) ps ++ m ∷ []
+pub messages-more : (asides more : List Message) (ps qs : List Parcel) (p : Parcel) (m : Message) → Keeps asides more → All (IsWithin asides) ps
+    → unpacked more p ≡ m → qs ≡ ps ++ p ∷ [] → map (unpacked more) qs ≡ map (unpacked asides) ps ++ m ∷ []
 messages-more asides more ps qs p m keeps within is at =
     ap (map (unpacked more)) at
     ∙ map-append (unpacked more) ps (p ∷ [])

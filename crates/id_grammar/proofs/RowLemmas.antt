@@ -1,6 +1,5 @@
 -- What each production keeps, from which the machine's lemmas follow for all of them at once.
-use Rattle.std.proofs.Common.{◌≡◌, ℕ, ◌+◌, ◌≤◌, max, Bool, true, false, Some, None, List, refl, sym, ap, ◌∙◌, arith}
-use Rattle.std.proofs.Common.{zero-le}
+use Rattle.std.proofs.Common.{◌≡◌, ℕ, ◌+◌, ◌≤◌, max, Bool, true, false, Some, None, List, refl, sym, ap, ◌∙◌, arith, zero-le}
 use denote.Enum.Bare.{same_true, true_same}
 use Rattle.id_text.specs.contracts.token.Keyword as keyword
 use Rattle.id_text.specs.contracts.token.Symbol as symbol
@@ -24,16 +23,14 @@ use Rattle.id_grammar.specs.Tree as tree
 use Rattle.id_grammar.specs.Tree.{Tree, binding, fetch, store, param, more}
 use Rattle.id_grammar.specs.Grammar.{Phrase, Definition, Parameters, MoreParameters, Expression, Grouped, Negation}
 use Rattle.id_grammar.specs.Grammar.{Unary, Postfix, Atom, Arguments, MoreArguments, Tail, kind_of, arguments_of}
-use Rattle.id_grammar.specs.Grammar.{statement_of, last_of, Rest, done, word, either, name, of_kind, part, sized}
-use Rattle.id_grammar.specs.Grammar.{raised, Opens}
+use Rattle.id_grammar.specs.Grammar.{statement_of, last_of, Rest, done, word, either, name, of_kind, part, sized, raised, Opens}
 use Rattle.id_grammar.specs.Grammar.{sign, body_of, bounds_of, deepened}
 use Rattle.id_grammar.specs.Grammar.{definition, no_parameters, first_parameter, last_parameter, next_parameter}
 use Rattle.id_grammar.specs.Grammar.{by_conditional, denied, negated, number, by_true, by_false, parens, by_name}
 use Rattle.id_grammar.specs.Grammar.{by_array, by_braces, no_arguments, last_argument, next_argument, by_statement}
 use Rattle.id_grammar.specs.Grammar.{by_next, by_body, by_last, operand, left_operand, operator_of, own_height, Derives}
 use Rattle.id_grammar.specs.Grammar.{opened, unconditional, single, grouped, plain, bare, atomic, fetched}
-use Rattle.id_grammar.specs.Grammar.{some_arguments, Follows, ended, taken, chosen, left_out, named, kinded, given}
-use Rattle.id_grammar.specs.Grammar.{measured, lifted}
+use Rattle.id_grammar.specs.Grammar.{some_arguments, Follows, ended, taken, chosen, left_out, named, kinded, given, measured, lifted}
 use Rattle.id_grammar.specs.Grammar.{unlifted}
 use Rattle.id_grammar.specs.Machine.{opening, least_height, room, is_word}
 use Rattle.id_grammar.specs.Standing.{Roomy}
@@ -108,8 +105,7 @@ Ends s0 s (part s' f) = ⊥
 Ends s0 s (sized s' f) = ⊥
 Ends s0 s (raised m w r q) = ⊥
 
--- a word is none with which what is left of a production of the phrase begins, or what stands behind it where that is
--- nothing
+-- a word is none with which what is left of a production of the phrase begins, or what stands behind it where that is nothing
 abbrev pub Bars : Phrase → Word → Rest → Type 0
 Bars s0 w (done e) = (k : TokenKind) → Quiet s0 k → is_word w k ≡ false
 Bars s0 w (word v r) = is_word w (kind_of v) ≡ false
@@ -141,8 +137,7 @@ Needs m (part s f) = (k : ℕ) × (m ≤ max (least_height s) k) × ((a : Tree) 
 Needs m (sized s f) = (k : ℕ) × (m ≤ max (least_height s) k) × ((a : Tree) (h : ℕ) → Needs k (f a h))
 Needs m (raised j w r q) = ((p : ℕ) → Needs m (r p)) × Needs m q
 
--- what each production keeps: its parts end where they must, their heights and their room are as it says, and it has
--- the
+-- what each production keeps: its parts end where they must, their heights and their room are as it says, and it has the
 -- least height of its phrase
 pub record Valid (s : Phrase) (r : Rest) : Type 0 where
   pub parts : Parts s r
@@ -162,8 +157,7 @@ same-is_word (the.Key j) _ e = cc
 same-is_word (the.Sign j) _ e = cc
 
 -- what is no bracket is not the word for one
-not_word : (w : Word) (f : TokenKind → Bool) → f (kind_of w) ≡ true → (k : TokenKind) → f k ≡ false
-    → is_word w k ≡ false
+not_word : (w : Word) (f : TokenKind → Bool) → f (kind_of w) ≡ true → (k : TokenKind) → f k ≡ false → is_word w k ≡ false
 not_word w f o k q = tested (is_word w k) refl
   where
     no_truth : true ≡ false → ⊥
@@ -201,11 +195,7 @@ not_for k p r by_body = refl
 
 -- behind an argument comes a comma or the closing bracket
 pub arguments_parts : (s0 : Phrase) → Parts s0 arguments_of
-arguments_parts s0 =
-    λ e. (
-      ((refl, (refl, (refl, (refl, (refl, refl))))), (refl, (refl, (refl, (refl, (refl, refl)))))),
-      λ a. (λ k q. tt, tt),
-    )
+arguments_parts s0 = λ e. (((refl, (refl, (refl, (refl, (refl, refl))))), (refl, (refl, (refl, (refl, (refl, refl)))))), λ a. (λ k q. tt, tt))
 
 -- behind the value of a statement comes a semicolon
 statement_parts : (o : Scope) (f : Tree → Tree) → Parts (Tail o) (statement_of o f)
@@ -217,8 +207,7 @@ not_deeper k p r last_parameter = refl
 not_deeper k p r next_parameter = refl
 
 -- what holds behind each kind holds behind its first word
-deepened_parts : (s0 : Phrase) (f : Kind → Rest) → ((k : Kind) → Parts s0 (f k))
-    → Bars s0 (the.Key Array) (f kind.Array) → (k : Kind) → Parts s0 (deepened f k)
+deepened_parts : (s0 : Phrase) (f : Kind → Rest) → ((k : Kind) → Parts s0 (f k)) → Bars s0 (the.Key Array) (f kind.Array) → (k : Kind) → Parts s0 (deepened f k)
 deepened_parts s0 f h b kind.Int = h kind.Int
 deepened_parts s0 f h b kind.Bool = h kind.Bool
 deepened_parts s0 f h b kind.Array = (b, λ p. h kind.Nested, h kind.Array)
@@ -245,8 +234,7 @@ kinded_parameter x q k = part MoreParameters (λ a. done (more (param x k q) a))
 
 -- the bounds of an array of either sort
 bounds_parts : (nested : Bool) (p : ℕ) → Parts Atom (bounds_of nested p)
-bounds_parts nested p =
-    λ a. ((refl, (refl, (refl, (refl, (refl, refl))))), λ b. ((refl, (refl, (refl, (refl, (refl, refl))))), tt))
+bounds_parts nested p = λ a. ((refl, (refl, (refl, (refl, (refl, refl))))), λ b. ((refl, (refl, (refl, (refl, (refl, refl))))), tt))
 
 -- the body of a block, and the last expression of a loop
 last_valid : {o : Scope} → Valid (Tail o) last_of
@@ -259,10 +247,7 @@ last_valid = record {
 
 pub valid : {s : Phrase} {k : TokenKind} {p : ℕ} {r : Rest} → Opens s k p r → Valid s r
 valid definition = record {
-  parts = λ x p a. (
-    tt,
-    deepened_parts Definition (kinded_body x p a) (λ k e. ((refl, (refl, (refl, (refl, (refl, refl))))), tt)) refl,
-  );
+  parts = λ x p a. (tt, deepened_parts Definition (kinded_body x p a) (λ k e. ((refl, (refl, (refl, (refl, (refl, refl))))), tt)) refl);
   high = omega arith;
   needs = λ x p. (1, omega arith, λ a. deepened_needs 1 (kinded_body x p a) (λ k. (0, omega arith, λ e. omega arith)));
   roomy = λ n d h x p. (omega arith, λ a. deepened_roomy n d (kinded_body x p a) (λ k. (h, λ e. tt)));
@@ -292,10 +277,7 @@ valid next_parameter = record {
   roomy = λ n d h x p. deepened_roomy n d (kinded_parameter x p) (λ k. (h, λ a. tt));
 }
 valid by_conditional = record {
-  parts = λ t. (
-    (refl, (refl, (refl, (refl, (refl, refl))))),
-    λ x. ((refl, (refl, (refl, (refl, (refl, refl))))), λ y. (λ k q. q, tt)),
-  );
+  parts = λ t. ((refl, (refl, (refl, (refl, (refl, refl))))), λ x. ((refl, (refl, (refl, (refl, (refl, refl))))), λ y. (λ k q. q, tt)));
   high = omega arith;
   needs = (0, omega arith, λ t. (0, omega arith, λ x. (0, omega arith, λ y. omega arith)));
   roomy = λ n d h. (h, λ t. (h, λ x. (h, λ y. tt)));
@@ -330,10 +312,7 @@ valid by_name = record {
 valid (by_array {p = p}) = record {
   parts = (refl, λ _. bounds_parts true p, bounds_parts false p);
   high = omega arith;
-  needs = (
-    λ _. (0, omega arith, λ a. (0, omega arith, λ b. omega arith)),
-    (0, omega arith, λ a. (0, omega arith, λ b. omega arith)),
-  );
+  needs = (λ _. (0, omega arith, λ a. (0, omega arith, λ b. omega arith)), (0, omega arith, λ a. (0, omega arith, λ b. omega arith)));
   roomy = λ n d h. (λ _. (h, λ a. (h, λ b. tt)), (h, λ a. (h, λ b. tt)));
 }
 valid by_braces = record {
@@ -342,20 +321,14 @@ valid by_braces = record {
     λ p t. ((refl, (refl, (refl, (refl, (refl, refl))))), λ a. (λ k q. tt, tt)),
     (
       not_for,
-      λ p x i low. (
-        (refl, (refl, (refl, (refl, (refl, refl))))),
-        λ high. ((refl, (refl, (refl, (refl, (refl, refl))))), λ a. (λ k q. tt, tt)),
-      ),
+      λ p x i low. ((refl, (refl, (refl, (refl, (refl, refl))))), λ high. ((refl, (refl, (refl, (refl, (refl, refl))))), λ a. (λ k q. tt, tt))),
       λ a. (λ k q. tt, tt),
     ),
   );
   high = omega arith;
   needs = (
     λ p. (0, omega arith, λ t. (0, omega arith, λ a. omega arith)),
-    (
-      λ p x i. (0, omega arith, λ low. (0, omega arith, λ high. (0, omega arith, λ a. omega arith))),
-      (0, omega arith, λ a. omega arith),
-    ),
+    (λ p x i. (0, omega arith, λ low. (0, omega arith, λ high. (0, omega arith, λ a. omega arith))), (0, omega arith, λ a. omega arith)),
   );
   roomy = λ n d h. (λ p. (h, λ t. (h, λ a. tt)), (λ p x i. (h, λ low. (h, λ high. (h, λ a. tt))), (h, λ a. tt)));
 }
@@ -374,10 +347,7 @@ valid (by_statement {s = s} {x = x} {p = p}) = record {
       (refl, (refl, (refl, (refl, (refl, refl))))),
       (
         refl,
-        λ o j. (
-          (refl, (refl, (refl, (refl, (refl, refl))))),
-          statement_parts s (λ e. store (fetch (tree.name x p) i q) j e o),
-        ),
+        λ o j. ((refl, (refl, (refl, (refl, (refl, refl))))), statement_parts s (λ e. store (fetch (tree.name x p) i q) j e o)),
         statement_parts s (λ e. store (tree.name x p) i e q),
       ),
     ),
@@ -410,8 +380,7 @@ valid by_body = last_valid
 valid by_last = last_valid
 
 -- the machine finds each production
-pub opening-from_opens : {s : Phrase} {k : TokenKind} {p : ℕ} {r : Rest} (o : Opens s k p r)
-    → opening s k p ≡ Some (record { rest = r; opens = o })
+pub opening-from_opens : {s : Phrase} {k : TokenKind} {p : ℕ} {r : Rest} (o : Opens s k p r) → opening s k p ≡ Some (record { rest = r; opens = o })
 opening-from_opens definition = refl
 opening-from_opens no_parameters = refl
 opening-from_opens first_parameter = refl
@@ -509,9 +478,7 @@ mutual
   Follows-height (left_out f) m n = Follows-height f m n.1
   Follows-height (named q f) m n = Follows-height f m (n _ _)
   Follows-height (kinded {k = k} q f) m n = Follows-height f m (n k)
-  Follows-height (given {a = a} {m = i} {n = j} d f) m n =
-      omega (arith, n.1, Derives-height d, Follows-height f n.0 (n.2 a))
-  Follows-height (measured {a = a} {m = i} {n = j} d f) m n =
-      omega (arith, n.1, Derives-height d, Follows-height f n.0 (n.2 a i))
+  Follows-height (given {a = a} {m = i} {n = j} d f) m n = omega (arith, n.1, Derives-height d, Follows-height f n.0 (n.2 a))
+  Follows-height (measured {a = a} {m = i} {n = j} d f) m n = omega (arith, n.1, Derives-height d, Follows-height f n.0 (n.2 a i))
   Follows-height (lifted {t = t} q f) m n = omega (arith, Follows-height f m (n.0 t.start))
   Follows-height (unlifted f) m n = Follows-height f m n.1

@@ -1,6 +1,5 @@
 -- Runs of the machine, step by step.
-use Rattle.std.proofs.Common.{◌≡◌, ℕ, ◌+◌, ◌≤◌, ◌<◌, max, true, false, Some, None, List, [], ◌∷◌, ◌++◌, refl, zero-le}
-use Rattle.std.proofs.Common.{le-leb}
+use Rattle.std.proofs.Common.{◌≡◌, ℕ, ◌+◌, ◌≤◌, ◌<◌, max, true, false, Some, None, List, [], ◌∷◌, ◌++◌, refl, zero-le, le-leb}
 use Rattle.std.proofs.lemmas.Bool.{lt-leb}
 use Rattle.id_text.specs.declared.token.Token.{Token}
 use Rattle.id_text.specs.declared.token.TokenKind.{TokenKind}
@@ -15,11 +14,9 @@ use Rattle.id_value.specs.declared.BinaryOp.{BinaryOp}
 use Rattle.id_grammar.specs.Tree.{Tree, binary}
 use Rattle.id_grammar.specs.Grammar.{Phrase, Definition, Parameters, MoreParameters, Expression, Grouped, Negation}
 use Rattle.id_grammar.specs.Grammar.{Unary, Postfix, Atom, Arguments, MoreArguments, Tail, kind_of, fetch_of}
-use Rattle.id_grammar.specs.Grammar.{arguments_of, Rest, done, word, either, name, of_kind, part, sized, raised}
-use Rattle.id_grammar.specs.Grammar.{kind_named, Opens}
+use Rattle.id_grammar.specs.Grammar.{arguments_of, Rest, done, word, either, name, of_kind, part, sized, raised, kind_named, Opens}
 use Rattle.id_grammar.specs.Grammar.{operand, operator_of, own_height}
-use Rattle.id_grammar.specs.Machine.{opening, room, Frame, Left, Right, Target, Inside, Sizing, Outer, again, State}
-use Rattle.id_grammar.specs.Machine.{Begin, Want}
+use Rattle.id_grammar.specs.Machine.{opening, room, Frame, Left, Right, Target, Inside, Sizing, Outer, again, State, Begin, Want}
 use Rattle.id_grammar.specs.Machine.{Have, Next, Move, is_word, takes, Refused, run}
 use Rattle.id_grammar.proofs.RowLemmas.{opening-from_opens, is_word-same}
 
@@ -40,8 +37,7 @@ module _ (n : ℕ) (t : Token) (ts : List Token) where
   run-none S q = rw q refl
 
   -- a fixed token
-  pub run-word : (w : Word) (r : Rest) (h d c : ℕ) (K : List Frame) → t.kind ≡ kind_of w
-      → run n (t ∷ ts) (Next (word w r) h d c K) ≡ run n ts (Next r h d c K)
+  pub run-word : (w : Word) (r : Rest) (h d c : ℕ) (K : List Frame) → t.kind ≡ kind_of w → run n (t ∷ ts) (Next (word w r) h d c K) ≡ run n ts (Next r h d c K)
   run-word w r h d c K q = let b = is_word-same w t.kind q in
       run-step (Next (word w r) h d c K) (record { need = 0; next = Next r h d c K }) (rw b refl) zero-le
 
@@ -55,18 +51,15 @@ module _ (n : ℕ) (t : Token) (ts : List Token) where
   -- a name
   pub run-name : (x : List ℕ) (f : List ℕ → ℕ → Rest) (h d c : ℕ) (K : List Frame) → t.kind ≡ Name x →
       run n (t ∷ ts) (Next (name f) h d c K) ≡ run n ts (Next (f x t.start) h d c K)
-  run-name x f h d c K q =
-      run-step (Next (name f) h d c K) (record { need = 0; next = Next (f x t.start) h d c K }) (rw q refl) zero-le
+  run-name x f h d c K q = run-step (Next (name f) h d c K) (record { need = 0; next = Next (f x t.start) h d c K }) (rw q refl) zero-le
 
   -- a kind
   pub run-kind : (k : Kind) (f : Kind → Rest) (h d c : ℕ) (K : List Frame) → kind_named t.kind ≡ Some k →
       run n (t ∷ ts) (Next (of_kind f) h d c K) ≡ run n ts (Next (f k) h d c K)
-  run-kind k f h d c K q =
-      run-step (Next (of_kind f) h d c K) (record { need = 0; next = Next (f k) h d c K }) (rw q refl) zero-le
+  run-kind k f h d c K q = run-step (Next (of_kind f) h d c K) (record { need = 0; next = Next (f k) h d c K }) (rw q refl) zero-le
 
   -- a token that begins a production
-  pub run-opens : (s : Phrase) (r : Rest) (d : ℕ) (K : List Frame) → Opens s t.kind t.start r
-      → d + own_height s + room r ≤ n →
+  pub run-opens : (s : Phrase) (r : Rest) (d : ℕ) (K : List Frame) → Opens s t.kind t.start r → d + own_height s + room r ≤ n →
       run n (t ∷ ts) (Want s d K) ≡ run n ts (Next r 0 (d + own_height s) (own_height s) K)
   run-opens Definition r d K o h = run-step (Want Definition d K) _ (rw (opening-from_opens o) refl) h
   run-opens Parameters r d K o h = run-step (Want Parameters d K) _ (rw (opening-from_opens o) refl) h
@@ -81,53 +74,38 @@ module _ (n : ℕ) (t : Token) (ts : List Token) where
   run-opens (Tail j) r d K o h = run-step (Want (Tail j) d K) _ (rw (opening-from_opens o) refl) h
   run-opens (Grouped l) r d K o h = elim o [ ]
 
-  pub run-opens-deep : (s : Phrase) (r : Rest) (d : ℕ) (K : List Frame) → Opens s t.kind t.start r
-      → n < d + own_height s + room r →
+  pub run-opens-deep : (s : Phrase) (r : Rest) (d : ℕ) (K : List Frame) → Opens s t.kind t.start r → n < d + own_height s + room r →
       run n (t ∷ ts) (Want s d K) ≡ Refused true t.start
-  run-opens-deep Definition r d K o h =
-      run-deep (Want Definition d K) (record { need = d + 0 + room r; next = Next r 0 (d + 0) 0 K })
+  run-opens-deep Definition r d K o h = run-deep (Want Definition d K) (record { need = d + 0 + room r; next = Next r 0 (d + 0) 0 K })
       (rw (opening-from_opens o) refl) h
-  run-opens-deep Parameters r d K o h =
-      run-deep (Want Parameters d K) (record { need = d + 0 + room r; next = Next r 0 (d + 0) 0 K })
+  run-opens-deep Parameters r d K o h = run-deep (Want Parameters d K) (record { need = d + 0 + room r; next = Next r 0 (d + 0) 0 K })
       (rw (opening-from_opens o) refl) h
-  run-opens-deep MoreParameters r d K o h =
-      run-deep (Want MoreParameters d K) (record { need = d + 0 + room r; next = Next r 0 (d + 0) 0 K })
+  run-opens-deep MoreParameters r d K o h = run-deep (Want MoreParameters d K) (record { need = d + 0 + room r; next = Next r 0 (d + 0) 0 K })
       (rw (opening-from_opens o) refl) h
   run-opens-deep Expression r d K o h =
-      run-deep (Want Expression d K) (record { need = d + 1 + room r; next = Next r 0 (d + 1) 1 K })
+      run-deep (Want Expression d K) (record { need = d + 1 + room r; next = Next r 0 (d + 1) 1 K }) (rw (opening-from_opens o) refl) h
+  run-opens-deep Negation r d K o h = run-deep (Want Negation d K) (record { need = d + 1 + room r; next = Next r 0 (d + 1) 1 K })
       (rw (opening-from_opens o) refl) h
-  run-opens-deep Negation r d K o h =
-      run-deep (Want Negation d K) (record { need = d + 1 + room r; next = Next r 0 (d + 1) 1 K })
-      (rw (opening-from_opens o) refl) h
-  run-opens-deep Unary r d K o h =
-      run-deep (Want Unary d K) (record { need = d + 1 + room r; next = Next r 0 (d + 1) 1 K })
-      (rw (opening-from_opens o) refl) h
+  run-opens-deep Unary r d K o h = run-deep (Want Unary d K) (record { need = d + 1 + room r; next = Next r 0 (d + 1) 1 K }) (rw (opening-from_opens o) refl) h
   run-opens-deep Postfix r d K o h = elim o [ ]
-  run-opens-deep Atom r d K o h =
-      run-deep (Want Atom d K) (record { need = d + 1 + room r; next = Next r 0 (d + 1) 1 K })
+  run-opens-deep Atom r d K o h = run-deep (Want Atom d K) (record { need = d + 1 + room r; next = Next r 0 (d + 1) 1 K }) (rw (opening-from_opens o) refl) h
+  run-opens-deep Arguments r d K o h = run-deep (Want Arguments d K) (record { need = d + 0 + room r; next = Next r 0 (d + 0) 0 K })
       (rw (opening-from_opens o) refl) h
-  run-opens-deep Arguments r d K o h =
-      run-deep (Want Arguments d K) (record { need = d + 0 + room r; next = Next r 0 (d + 0) 0 K })
+  run-opens-deep MoreArguments r d K o h = run-deep (Want MoreArguments d K) (record { need = d + 0 + room r; next = Next r 0 (d + 0) 0 K })
       (rw (opening-from_opens o) refl) h
-  run-opens-deep MoreArguments r d K o h =
-      run-deep (Want MoreArguments d K) (record { need = d + 0 + room r; next = Next r 0 (d + 0) 0 K })
-      (rw (opening-from_opens o) refl) h
-  run-opens-deep (Tail j) r d K o h =
-      run-deep (Want (Tail j) d K) (record { need = d + 0 + room r; next = Next r 0 (d + 0) 0 K })
+  run-opens-deep (Tail j) r d K o h = run-deep (Want (Tail j) d K) (record { need = d + 0 + room r; next = Next r 0 (d + 0) 0 K })
       (rw (opening-from_opens o) refl) h
   run-opens-deep (Grouped l) r d K o h = elim o [ ]
 
   -- an operator of a level
-  pub run-operator : (l : Level) (o : BinaryOp) (a : Tree) (m d : ℕ) (K : List Frame) → operator_of l t.kind ≡ Some o
-      → d + m + 1 ≤ n →
+  pub run-operator : (l : Level) (o : BinaryOp) (a : Tree) (m d : ℕ) (K : List Frame) → operator_of l t.kind ≡ Some o → d + m + 1 ≤ n →
       run n (t ∷ ts) (Have a m (Left l d ∷ K)) ≡ run n ts (Want (operand l) (d + 1) (Right l o a m t.start d ∷ K))
   run-operator l o a m d K q h = run-step (Have a m (Left l d ∷ K))
       (record { need = d + m + 1; next = Want (operand l) (d + 1) (Right l o a m t.start d ∷ K) }) (rw q refl) h
 
   -- the bracket of a fetch
   run-bracket : (a : Tree) (m d : ℕ) (K : List Frame) → t.kind ≡ Sign LeftBracket →
-      takes t (Have a m (Target d ∷ K))
-      ≡ Some (record { need = d + m + 1; next = Next (fetch_of a t.start) m (d + 1) 1 (Target d ∷ K) })
+      takes t (Have a m (Target d ∷ K)) ≡ Some (record { need = d + m + 1; next = Next (fetch_of a t.start) m (d + 1) 1 (Target d ∷ K) })
   run-bracket a m d K q = let b = is_word-same (the.Sign LeftBracket) t.kind q in rw b refl
 
   pub run-fetch : (a : Tree) (m d : ℕ) (K : List Frame) → t.kind ≡ Sign LeftBracket → d + m + 1 ≤ n →
@@ -139,31 +117,20 @@ module _ (n : ℕ) (t : Token) (ts : List Token) where
   run-fetch-deep a m d K q h = run-deep (Have a m (Target d ∷ K)) _ (run-bracket a m d K q) h
 
   -- a word by which what stands before it becomes a part of an expression
-  pub run-lifted : (j : ℕ) (w : Word) (r : ℕ → Rest) (o : Rest) (h d c : ℕ) (K : List Frame) → t.kind ≡ kind_of w
-      → d + j + 1 ≤ n →
+  pub run-lifted : (j : ℕ) (w : Word) (r : ℕ → Rest) (o : Rest) (h d c : ℕ) (K : List Frame) → t.kind ≡ kind_of w → d + j + 1 ≤ n →
       run n (t ∷ ts) (Next (raised j w r o) h d c K) ≡ run n ts (Next (r t.start) (max h (j + 1)) d c K)
   run-lifted j w r o h d c K q k =
       let b = is_word-same w t.kind q in
-      run-step (Next (raised j w r o) h d c K) (record {
-        need = d + j + 1;
-        next =
-            Next (r t.start) (max h (j + 1)) d c K;
-      }) (rw b refl) k
+      run-step (Next (raised j w r o) h d c K) (record { need = d + j + 1; next = Next (r t.start) (max h (j + 1)) d c K }) (rw b refl) k
 
-  pub run-lifted-deep : (j : ℕ) (w : Word) (r : ℕ → Rest) (o : Rest) (h d c : ℕ) (K : List Frame) → t.kind ≡ kind_of w
-      → n < d + j + 1 →
+  pub run-lifted-deep : (j : ℕ) (w : Word) (r : ℕ → Rest) (o : Rest) (h d c : ℕ) (K : List Frame) → t.kind ≡ kind_of w → n < d + j + 1 →
       run n (t ∷ ts) (Next (raised j w r o) h d c K) ≡ Refused true t.start
   run-lifted-deep j w r o h d c K q k =
       let b = is_word-same w t.kind q in
-      run-deep (Next (raised j w r o) h d c K) (record {
-        need = d + j + 1;
-        next =
-            Next (r t.start) (max h (j + 1)) d c K;
-      }) (rw b refl) k
+      run-deep (Next (raised j w r o) h d c K) (record { need = d + j + 1; next = Next (r t.start) (max h (j + 1)) d c K }) (rw b refl) k
 
 -- What takes no token.
-pub run-done : (n : ℕ) (ts : List Token) (e : Tree) (h d c : ℕ) (K : List Frame)
-    → run n ts (Next (done e) h d c K) ≡ run n ts (Have e (h + c) K)
+pub run-done : (n : ℕ) (ts : List Token) (e : Tree) (h d c : ℕ) (K : List Frame) → run n ts (Next (done e) h d c K) ≡ run n ts (Have e (h + c) K)
 unfolding run
 run-done n [] e h d c K = refl
 run-done n (t ∷ ts) e h d c K = refl
@@ -192,8 +159,7 @@ unfolding run
 run-inside n [] e h f m d c K = refl
 run-inside n (t ∷ ts) e h f m d c K = refl
 
-pub run-right : (n : ℕ) (ts : List Token) (b : Tree) (k : ℕ) (l : Level) (o : BinaryOp) (a : Tree) (m p d : ℕ)
-    (K : List Frame) →
+pub run-right : (n : ℕ) (ts : List Token) (b : Tree) (k : ℕ) (l : Level) (o : BinaryOp) (a : Tree) (m p d : ℕ) (K : List Frame) →
     run n ts (Have b k (Right l o a m p d ∷ K)) ≡ run n ts (Have (binary o a b p) (max m k + 1) (again l d K))
 unfolding run
 run-right n [] b k l o a m p d K = refl
@@ -204,14 +170,12 @@ run-right n (t ∷ ts) b k level.Sum o a m p d K = refl
 run-right n (t ∷ ts) b k level.Product o a m p d K = refl
 
 -- a definition that has come stands behind those before it
-pub run-outer : (n : ℕ) (ts : List Token) (e : Tree) (h : ℕ) (ds : List Tree)
-    → run n ts (Have e h (Outer ds ∷ [])) ≡ run n ts (Begin (ds ++ e ∷ []))
+pub run-outer : (n : ℕ) (ts : List Token) (e : Tree) (h : ℕ) (ds : List Tree) → run n ts (Have e h (Outer ds ∷ [])) ≡ run n ts (Begin (ds ++ e ∷ []))
 unfolding run
 run-outer n [] e h ds = refl
 run-outer n (t ∷ ts) e h ds = refl
 
-pub run-level : (n : ℕ) (ts : List Token) (l : Level) (d : ℕ) (K : List Frame)
-    → run n ts (Want (Grouped l) d K) ≡ run n ts (Want (operand l) d (Left l d ∷ K))
+pub run-level : (n : ℕ) (ts : List Token) (l : Level) (d : ℕ) (K : List Frame) → run n ts (Want (Grouped l) d K) ≡ run n ts (Want (operand l) d (Left l d ∷ K))
 unfolding run
 run-level n [] l d K = refl
 run-level n (t ∷ ts) level.Or d K = refl
@@ -240,15 +204,13 @@ run-plain n [] d K q = refl
 run-plain n (t ∷ ts) d K q = rw q refl
 
 -- without `-` an operand that may be a fetch is wanted
-pub run-bare : (n : ℕ) (ts : List Token) (d : ℕ) (K : List Frame) → Unopened Unary ts
-    → run n ts (Want Unary d K) ≡ run n ts (Want Postfix d K)
+pub run-bare : (n : ℕ) (ts : List Token) (d : ℕ) (K : List Frame) → Unopened Unary ts → run n ts (Want Unary d K) ≡ run n ts (Want Postfix d K)
 unfolding run
 run-bare n [] d K q = refl
 run-bare n (t ∷ ts) d K q = rw q refl
 
 -- it begins with one that is none
-pub run-postfix : (n : ℕ) (ts : List Token) (d : ℕ) (K : List Frame)
-    → run n ts (Want Postfix d K) ≡ run n ts (Want Atom d (Target d ∷ K))
+pub run-postfix : (n : ℕ) (ts : List Token) (d : ℕ) (K : List Frame) → run n ts (Want Postfix d K) ≡ run n ts (Want Atom d (Target d ∷ K))
 unfolding run
 run-postfix n [] d K = refl
 run-postfix n (t ∷ ts) d K = refl
@@ -259,15 +221,13 @@ First P [] = Unit {0}
 First P (t ∷ ts) = P t.kind
 
 -- where the word is not, it is left out
-pub run-left_out : (n : ℕ) (ts : List Token) (w : Word) (r : ℕ → Rest) (o : Rest) (h d c : ℕ) (K : List Frame)
-    → First (λ k. is_word w k ≡ false) ts →
+pub run-left_out : (n : ℕ) (ts : List Token) (w : Word) (r : ℕ → Rest) (o : Rest) (h d c : ℕ) (K : List Frame) → First (λ k. is_word w k ≡ false) ts →
     run n ts (Next (either w r o) h d c K) ≡ run n ts (Next o h d c K)
 unfolding run
 run-left_out n [] w r o h d c K q = refl
 run-left_out n (t ∷ ts) w r o h d c K q = rw q refl
 
-pub run-unlifted : (n : ℕ) (ts : List Token) (j : ℕ) (w : Word) (r : ℕ → Rest) (o : Rest) (h d c : ℕ) (K : List Frame)
-    → First (λ k. is_word w k ≡ false) ts →
+pub run-unlifted : (n : ℕ) (ts : List Token) (j : ℕ) (w : Word) (r : ℕ → Rest) (o : Rest) (h d c : ℕ) (K : List Frame) → First (λ k. is_word w k ≡ false) ts →
     run n ts (Next (raised j w r o) h d c K) ≡ run n ts (Next o h d c K)
 unfolding run
 run-unlifted n [] j w r o h d c K q = refl
@@ -281,16 +241,14 @@ run-arguments n [] d K q = refl
 run-arguments n (t ∷ ts) d K q = rw q refl
 
 -- a level ends where no operator of it stands
-pub run-left : (n : ℕ) (ts : List Token) (l : Level) (e : Tree) (h d : ℕ) (K : List Frame)
-    → First (λ k. operator_of l k ≡ None) ts →
+pub run-left : (n : ℕ) (ts : List Token) (l : Level) (e : Tree) (h d : ℕ) (K : List Frame) → First (λ k. operator_of l k ≡ None) ts →
     run n ts (Have e h (Left l d ∷ K)) ≡ run n ts (Have e h K)
 unfolding run
 run-left n [] l e h d K q = refl
 run-left n (t ∷ ts) l e h d K q = rw q refl
 
 -- an operand ends where no bracket of a fetch stands
-pub run-target : (n : ℕ) (ts : List Token) (e : Tree) (h d : ℕ) (K : List Frame)
-    → First (λ k. is_word (the.Sign LeftBracket) k ≡ false) ts →
+pub run-target : (n : ℕ) (ts : List Token) (e : Tree) (h d : ℕ) (K : List Frame) → First (λ k. is_word (the.Sign LeftBracket) k ≡ false) ts →
     run n ts (Have e h (Target d ∷ K)) ≡ run n ts (Have e h K)
 unfolding run
 run-target n [] e h d K q = refl

@@ -28,26 +28,20 @@ rank-injective d e same =
 
 -- what a comparison says of the ranks, by the ports of the two destinations
 pub record RanksBy (cmp : Dest → Dest → Ordering) : Type 0 where
-  pub both_zero : (m n : ℕ)
-      → is_lt (cmp (record { instr = m; port = Zero }) (record { instr = n; port = Zero })) ≡ false → n ≤ m
-  pub zero_one : (m n : ℕ) → is_lt (cmp (record { instr = m; port = Zero }) (record { instr = n; port = One })) ≡ false
-      → n < m
-  pub one_zero : (m n : ℕ) → is_lt (cmp (record { instr = m; port = One }) (record { instr = n; port = Zero })) ≡ false
-      → n ≤ m
-  pub both_one : (m n : ℕ) → is_lt (cmp (record { instr = m; port = One }) (record { instr = n; port = One })) ≡ false
-      → n ≤ m
+  pub both_zero : (m n : ℕ) → is_lt (cmp (record { instr = m; port = Zero }) (record { instr = n; port = Zero })) ≡ false → n ≤ m
+  pub zero_one : (m n : ℕ) → is_lt (cmp (record { instr = m; port = Zero }) (record { instr = n; port = One })) ≡ false → n < m
+  pub one_zero : (m n : ℕ) → is_lt (cmp (record { instr = m; port = One }) (record { instr = n; port = Zero })) ≡ false → n ≤ m
+  pub both_one : (m n : ℕ) → is_lt (cmp (record { instr = m; port = One }) (record { instr = n; port = One })) ≡ false → n ≤ m
 
 rank-from_parts : {cmp : Dest → Dest → Ordering} → RanksBy cmp → (m n : ℕ) (p q : Port) →
-    is_lt (cmp (record { instr = m; port = p }) (record { instr = n; port = q })) ≡ false
-    → 2 * n + port_number q ≤ 2 * m + port_number p
+    is_lt (cmp (record { instr = m; port = p }) (record { instr = n; port = q })) ≡ false → 2 * n + port_number q ≤ 2 * m + port_number p
 rank-from_parts by m n Zero Zero least = omega (arith, by.both_zero m n least)
 rank-from_parts by m n Zero One least = omega (arith, by.zero_one m n least)
 rank-from_parts by m n One Zero least = omega (arith, by.one_zero m n least)
 rank-from_parts by m n One One least = omega (arith, by.both_one m n least)
 
 -- along a sorted list the ranks do not fall
-pub IsNonDecreasingBy-from_sorted : {cmp : Dest → Dest → Ordering} → IsTotalOrder cmp → (ds : List Dest) → RanksBy cmp
-    → IsSorted cmp ds →
+pub IsNonDecreasingBy-from_sorted : {cmp : Dest → Dest → Ordering} → IsTotalOrder cmp → (ds : List Dest) → RanksBy cmp → IsSorted cmp ds →
     IsNonDecreasingBy rank ds
 IsNonDecreasingBy-from_sorted _ ds by sorted =
     IsNonDecreasingBy-from_all_adjacent rank ds (λ k d h.
@@ -106,8 +100,7 @@ count-below r s (d ∷ ds) from below =
     in rw other (omega (arith, count-below r s ds from.1 below))
 
 -- the head of a list is not below the head of one that rises and has the same destinations
-head_not_below : (d e : Dest) (ds es : List Dest) → Rises (e ∷ es) → ((r : ℕ) → count r (d ∷ ds) ≡ count r (e ∷ es))
-    → rank d < rank e → ⊥
+head_not_below : (d e : Dest) (ds es : List Dest) → Rises (e ∷ es) → ((r : ℕ) → count r (d ∷ ds) ≡ count r (e ∷ es)) → rank d < rank e → ⊥
 unfolding AllFrom Rises
 head_not_below d e ds es up same below =
     let none = count-below (rank d) (rank e) (e ∷ es) (omega arith, up.0) below
@@ -136,8 +129,7 @@ same_lists (d ∷ ds) (e ∷ es) up up' same =
 count-placed : (r : ℕ) (d : Dest) (es : List Dest) → count r (placed d es) ≡ cond (rank d == r) 1 0 + count r es
 count-placed r d [] = refl
 count-placed r d (e ∷ es) =
-    elim (nat_le (rank d) (rank e)) as (λ t. count r (cond t (d ∷ e ∷ es) (e ∷ placed d es)) ≡ cond (rank d == r) 1 0
-    + (cond (rank e == r) 1 0 + count r es)) [
+    elim (nat_le (rank d) (rank e)) as (λ t. count r (cond t (d ∷ e ∷ es) (e ∷ placed d es)) ≡ cond (rank d == r) 1 0 + (cond (rank e == r) 1 0 + count r es)) [
       | true ↦ refl
       | false ↦ omega (arith, count-placed r d es)
     ]
@@ -168,8 +160,7 @@ Rises-placed : (d : Dest) (es : List Dest) → Rises es → Rises (placed d es)
 unfolding AllFrom Rises
 Rises-placed d [] up = (tt, tt)
 Rises-placed d (e ∷ es) up =
-    elim (nat_le (rank d) (rank e)) as (λ t. nat_le (rank d) (rank e) ≡ t
-    → Rises (cond t (d ∷ e ∷ es) (e ∷ placed d es))) [
+    elim (nat_le (rank d) (rank e)) as (λ t. nat_le (rank d) (rank e) ≡ t → Rises (cond t (d ∷ e ∷ es) (e ∷ placed d es))) [
       | true ↦ λ is.
           let low : rank d ≤ rank e = grind (arith, nat_tests)
           in ((low, AllFrom-lower (rank d) (rank e) es low up.0), up)
@@ -187,16 +178,13 @@ Rises-in_order (d ∷ ds) = Rises-placed d (in_order ds) (Rises-in_order ds)
 -- a count by recursion is one by a fold
 count-sum_by : (r : ℕ) (ds : List Dest) → count r ds ≡ sum_by (λ d. cond (rank d == r) 1 0) ds
 count-sum_by r [] = refl
-count-sum_by r (d ∷ ds) =
-    ap (λ n. cond (rank d == r) 1 0 + n) (count-sum_by r ds) ∙ sym (sum_by-cons (λ d. cond (rank d == r) 1 0) d ds)
+count-sum_by r (d ∷ ds) = ap (λ n. cond (rank d == r) 1 0 + n) (count-sum_by r ds) ∙ sym (sum_by-cons (λ d. cond (rank d == r) 1 0) d ds)
 
 -- a bound at each index is a bound along the list
-AllFrom-from_index : (r : ℕ) (ds : List Dest) → ((k : ℕ) (d : Dest) → k < length ds → r ≤ rank (get_or ds k d))
-    → AllFrom r ds
+AllFrom-from_index : (r : ℕ) (ds : List Dest) → ((k : ℕ) (d : Dest) → k < length ds → r ≤ rank (get_or ds k d)) → AllFrom r ds
 unfolding AllFrom
 AllFrom-from_index r [] from = tt
-AllFrom-from_index r (d ∷ ds) from =
-    (from 0 d (omega arith), AllFrom-from_index r ds (λ k x h. from (suc k) x (omega arith)))
+AllFrom-from_index r (d ∷ ds) from = (from 0 d (omega arith), AllFrom-from_index r ds (λ k x h. from (suc k) x (omega arith)))
 
 -- a list whose ranks do not fall rises
 Rises-from_index : (ds : List Dest) → IsNonDecreasingBy rank ds → Rises ds
@@ -211,8 +199,7 @@ Rises-from_index (d ∷ ds) up = (
 pub in_order-from_sort : (ds es : List Dest) → IsPermutation ds es → IsNonDecreasingBy rank es → es ≡ in_order ds
 in_order-from_sort ds es moved up =
     same_lists es (in_order ds) (Rises-from_index es up) (Rises-in_order ds)
-    (λ r. count-sum_by r es ∙ sum_by-IsPermutation (λ d. cond (rank d == r) 1 0) ds es moved ∙ sym (count-sum_by r ds)
-    ∙ sym (count-in_order r ds))
+    (λ r. count-sum_by r es ∙ sum_by-IsPermutation (λ d. cond (rank d == r) 1 0) ds es moved ∙ sym (count-sum_by r ds) ∙ sym (count-in_order r ds))
 
 -- a list of one destination or none is in order
 pub in_order-short : (ds : List Dest) → length ds < 2 → in_order ds ≡ ds

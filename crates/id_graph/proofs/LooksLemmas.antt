@@ -1,6 +1,5 @@
 -- Lemmas on specs/Looks.antt: a word is ASCII.
-use Rattle.std.proofs.Common.{◌≡◌, ℕ, zero, suc, ◌<◌, Bool, true, false, List, [], ◌∷◌, cond, get_or, take_while}
-use Rattle.std.proofs.Common.{IsUtf8, refl, sym, subst, arith}
+use Rattle.std.proofs.Common.{◌≡◌, ℕ, zero, suc, ◌<◌, Bool, true, false, List, [], ◌∷◌, cond, get_or, take_while, IsUtf8, refl, sym, subst, arith}
 use Rattle.std.proofs.lemmas.Bool.Decides.{nat_tests}
 use Rattle.std.proofs.lemmas.List.Sums.{take_while-cons}
 use Rattle.std.proofs.lemmas.Str.{IsUtf8-from_ascii}
@@ -19,8 +18,7 @@ one_more b bs h k (suc i) = k i
 word_ascii : (bs : List ℕ) → (i : ℕ) → get_or (take_while is_name_byte bs) i 0 < 128
 word_ascii [] = λ i. omega arith
 word_ascii (b ∷ bs) =
-    subst (λ (w : List ℕ). (i : ℕ)
-    → get_or w i 0 < 128) (sym (take_while-cons is_name_byte b bs)) (by (is_name_byte b) refl (word_ascii bs))
+    subst (λ (w : List ℕ). (i : ℕ) → get_or w i 0 < 128) (sym (take_while-cons is_name_byte b bs)) (by (is_name_byte b) refl (word_ascii bs))
   where
     by : (x : Bool) → is_name_byte b ≡ x → ((i : ℕ) → get_or (take_while is_name_byte bs) i 0 < 128) → (i : ℕ) →
         get_or (cond x (b ∷ take_while is_name_byte bs) []) i 0 < 128

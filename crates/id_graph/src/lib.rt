@@ -3,8 +3,8 @@
 //! Keeps: nothing beyond its values.
 //! Errors: want of memory alone.
 //! Read first: docs/GRAPH.md ("Listing"), `specs/Listing.antt`, then `list`; `specs/Dot.antt`, then `draw`.
-//! Not here: instructions, their ports and graphs (`id_instr`), how a program becomes a graph (`id_build`), which
-//! graphs are sound (`id_valid`).
+//! Not here: instructions, their ports and graphs (`id_instr`), how a program becomes a graph (`id_build`), which graphs
+//! are sound (`id_valid`).
 #![tactic(auto)]
 
 mod dot;

@@ -1,6 +1,5 @@
 -- Each step keeps the rule of an inbox.
-use Rattle.std.proofs.Common.{◌≡◌, ◌≢◌, ℕ, zero, suc, ◌+◌, ◌<◌, ◌≤◌, List, [], ◌∷◌, ◌++◌, set, sym, refl, ap, ◌∙◌}
-use Rattle.std.proofs.Common.{subst, ⊎_elim, arith}
+use Rattle.std.proofs.Common.{◌≡◌, ◌≢◌, ℕ, zero, suc, ◌+◌, ◌<◌, ◌≤◌, List, [], ◌∷◌, ◌++◌, set, sym, refl, ap, ◌∙◌, subst, ⊎_elim, arith}
 use Rattle.std.specs.List.{sum_by}
 use Rattle.std.proofs.lemmas.List.Sums.{sum_by-append, sum_by-cons}
 use mathlib.Core.Option.{some, some-ne-none, some-injective}
@@ -10,12 +9,10 @@ use Rattle.crossbeam_queue.proofs.Lists.{at_set, at_snoc}
 use Rattle.id_tag.specs.declared.Message.{Message}
 use Rattle.id_flight.specs.Queues.{QueueView}
 use Rattle.id_inbox.specs.declared.hand.Hand.{Hand}
-use Rattle.id_inbox.specs.Hands.{new_hand, spent_hand, kept_of, both_of, sending, taking, IdleIsEmpty, IsBalanced}
-use Rattle.id_inbox.specs.Hands.{KnowsAll, weight_in}
+use Rattle.id_inbox.specs.Hands.{new_hand, spent_hand, kept_of, both_of, sending, taking, IdleIsEmpty, IsBalanced, KnowsAll, weight_in}
 
 -- the total after a change of one pass
-total_set : (f : Hand → ℕ) (views : List Hand) (port : ℕ) (v w : Hand) → get_elem? views port ≡ some v
-    → sum_by f (set views port w) + f v ≡ sum_by f views + f w
+total_set : (f : Hand → ℕ) (views : List Hand) (port : ℕ) (v w : Hand) → get_elem? views port ≡ some v → sum_by f (set views port w) + f v ≡ sum_by f views + f w
 total_set f [] port v w at = absurd (some-ne-none v (sym at))
 total_set f (u ∷ us) zero v w at =
     let same : u ≡ v = some-injective u v at in
@@ -29,10 +26,8 @@ abbrev pub Empty : Hand → Type 0
 Empty v = (v.sent ≡ []) × (v.taken ≡ [])
 
 -- passes without parts stay empty, where one pass changes
-idle_set : (views : List Hand) (port : ℕ) (w : Hand) → (w.parts ≡ 0 → Empty w) → IdleIsEmpty views
-    → IdleIsEmpty (set views port w)
-idle_set views port w mine others j u e none =
-    ⊎_elim (λ (x : (j ≡ port) × (w ≡ u)). subst (λ (y : Hand). y.parts ≡ 0 → Empty y) x.1 mine none)
+idle_set : (views : List Hand) (port : ℕ) (w : Hand) → (w.parts ≡ 0 → Empty w) → IdleIsEmpty views → IdleIsEmpty (set views port w)
+idle_set views port w mine others j u e none = ⊎_elim (λ (x : (j ≡ port) × (w ≡ u)). subst (λ (y : Hand). y.parts ≡ 0 → Empty y) x.1 mine none)
     (λ (x : (j ≢ port) × (get_elem? views j ≡ some u)). others j u x.1 none) (at_set views port j w u e)
 
 -- a total of a list with one more
@@ -50,8 +45,7 @@ weight_first : (f : Message → ℕ) (x : QueueView) (items : List QueueView)
     → weight_in f (x ∷ items) ≡ sum_by f x.messages + weight_in f items
 weight_first f x items = sum_by-cons (λ (q : QueueView). sum_by f q.messages) x items
 
-pub sends : (n port : ℕ) (v : Hand) (x : QueueView) → 0 < v.parts
-    → Pushes IsBalanced n port v x (λ w. w ≡ sending v x.messages)
+pub sends : (n port : ℕ) (v : Hand) (x : QueueView) → 0 < v.parts → Pushes IsBalanced n port v x (λ w. w ≡ sending v x.messages)
 sends n port v x some_part items views room h at = (
   sending v x.messages,
   (
@@ -95,8 +89,7 @@ forks port v two items views h at = let vs : List Hand = set views port (kept_of
       omega (arith, s, t, s', t', p)),
   (let idle = idle_set views port (kept_of v) (λ none. absurd (omega arith)) h.2 in
       λ j u e none. ⊎_elim (λ (x : get_elem? vs j ≡ some u). idle j u x none)
-      (λ (x : new_hand ≡ u). absurd (let k : 1 ≡ u.parts = ap (λ (y : Hand). y.parts) x in omega arith))
-      (at_snoc vs new_hand u j e)),
+      (λ (x : new_hand ≡ u). absurd (let k : 1 ≡ u.parts = ap (λ (y : Hand). y.parts) x in omega arith)) (at_snoc vs new_hand u j e)),
 )
 
 pub merges : (port : ℕ) (v : Hand) (other : ℕ) (u : Hand) → Merges IsBalanced port v other u (both_of v u) spent_hand
@@ -114,18 +107,14 @@ merges port v other u items views h at apart at' =
           omega (arith, sum_by-append f v.sent u.sent, sum_by-append f v.taken u.taken, s, t, s', t', p)),
       idle_set vs other spent_hand (λ none. (refl, refl))
           (idle_set views port (both_of v u) (λ none.
-          let was : get_elem? views other ≡ some u =
-          ⊎_elim (λ (x : (other ≡ port) × (both_of v u ≡ u)). absurd (apart x.0))
-          (λ (x : (other ≢ port) × (get_elem? views other ≡ some u)). x.1)
-          (at_set views port other (both_of v u) u at') in
+          let was : get_elem? views other ≡ some u = ⊎_elim (λ (x : (other ≡ port) × (both_of v u ≡ u)). absurd (apart x.0)) (λ (x : (other ≢ port) × (get_elem? views other ≡ some u)). x.1) (at_set views port other (both_of v u) u at') in
           let a = h.2 port v at (omega arith) in
           let b = h.2 other u was (omega arith) in
           (ap (λ l. l ++ u.sent) a.0 ∙ b.0, ap (λ l. l ++ u.taken) a.1 ∙ b.1)) h.2),
     )
 
 -- a sum is zero where each term is
-zero_total : (f g : Hand → ℕ) (views : List Hand) → sum_by g views ≡ 0
-    → ((j : ℕ) (u : Hand) → get_elem? views j ≡ some u → g u ≡ 0 → f u ≡ 0) → sum_by f views ≡ 0
+zero_total : (f g : Hand → ℕ) (views : List Hand) → sum_by g views ≡ 0 → ((j : ℕ) (u : Hand) → get_elem? views j ≡ some u → g u ≡ 0 → f u ≡ 0) → sum_by f views ≡ 0
 zero_total f g [] none each = refl
 zero_total f g (u ∷ us) none each =
     let a = sum_by-cons g u us in
@@ -142,9 +131,8 @@ least g (u ∷ us) zero v at =
 least g (u ∷ us) (suc port) v at = let r = least g us port v at in omega (arith, sum_by-cons g u us, r)
 
 -- where one pass has all parts, a total is its own
-whole_total : (f g : Hand → ℕ) (views : List Hand) (port : ℕ) (v : Hand) → get_elem? views port ≡ some v
-    → sum_by g views ≡ g v → ((j : ℕ) (u : Hand) → get_elem? views j ≡ some u → g u ≡ 0 → f u ≡ 0)
-    → sum_by f views ≡ f v
+whole_total : (f g : Hand → ℕ) (views : List Hand) (port : ℕ) (v : Hand) → get_elem? views port ≡ some v → sum_by g views ≡ g v
+    → ((j : ℕ) (u : Hand) → get_elem? views j ≡ some u → g u ≡ 0 → f u ≡ 0) → sum_by f views ≡ f v
 whole_total f g [] port v at all each = absurd (some-ne-none v (sym at))
 whole_total f g (u ∷ us) zero v at all each =
     let same : u ≡ v = some-injective u v at in
@@ -163,9 +151,7 @@ whole_total f g (u ∷ us) (suc port) v at all each =
 pub learns : (port : ℕ) (v : Hand) → Learns IsBalanced port v (KnowsAll v)
 learns port v items views h at all f =
     let whole : sum_by (λ (u : Hand). u.parts) views ≡ v.parts = h.0 ∙ sym all in
-    let s = whole_total (λ u. sum_by f u.sent) (λ u. u.parts) views port v at whole
-    (λ j u e none. ap (sum_by f) (h.2 j u e none).0) in
-    let t = whole_total (λ u. sum_by f u.taken) (λ u. u.parts) views port v at whole
-    (λ j u e none. ap (sum_by f) (h.2 j u e none).1) in
+    let s = whole_total (λ u. sum_by f u.sent) (λ u. u.parts) views port v at whole (λ j u e none. ap (sum_by f) (h.2 j u e none).0) in
+    let t = whole_total (λ u. sum_by f u.taken) (λ u. u.parts) views port v at whole (λ j u e none. ap (sum_by f) (h.2 j u e none).1) in
     let p = h.1 f in
     omega (arith, s, t, p)

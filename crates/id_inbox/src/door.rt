@@ -61,8 +61,8 @@ impl Door {
     }
 
     /// Sends the messages of a letter, all at once. The letter comes back where there is no memory for a block of the
-    /// queue, or its places are used up: it has seen that another block is wanted, or that no place is left, and
-    /// nothing else has changed.
+    /// queue, or its places are used up: it has seen that another block is wanted, or that no place is left, and nothing
+    /// else has changed.
     pub fn push<R: Wait>(&mut self, rt: &R, letter: Queue) -> Result<(), Queue>
         requires { 0 < self.old.hand.parts }
         ensures { MatchResult result

@@ -1,6 +1,5 @@
 -- Lemmas on specs/Graph.antt, in the order of its definitions.
-use Rattle.std.proofs.Common.{◌≡◌, ◌<◌, Bool, cond, List, [], ◌∷◌, ◌++◌, length, true, false, All, inl, inr, refl, sym}
-use Rattle.std.proofs.Common.{subst}
+use Rattle.std.proofs.Common.{◌≡◌, ◌<◌, Bool, cond, List, [], ◌∷◌, ◌++◌, length, true, false, All, inl, inr, refl, sym, subst}
 use Rattle.std.proofs.lemmas.List.Elements.{All-nil, All-cons, All-head, All-tail, All-append}
 use Rattle.std.proofs.lemmas.Option.{slice_get_cases}
 use Rattle.id_value.specs.List.{Among}
@@ -30,14 +29,12 @@ pub All-false_arcs : (P : Dest → Type 0) (i : Instr) → All P (arcs i) → Al
 All-false_arcs P i = All-right P (arcs_on true i) (false_arcs i)
 
 -- of an operator with two sides it holds on each
-pub All-arcs_on : (P : Dest → Type 0) (i : Instr) (b : Bool) → two_sides i.op ≡ true → All P (arcs i)
-    → All P (arcs_on b i)
+pub All-arcs_on : (P : Dest → Type 0) (i : Instr) (b : Bool) → two_sides i.op ≡ true → All P (arcs i) → All P (arcs_on b i)
 All-arcs_on P i true two h = All-true_arcs P i h
 All-arcs_on P i false two h = subst (λ s. All P (cond s i.others [])) two (All-false_arcs P i h)
 
 -- a destination that counts is on a side that there is, and the other way round
-pub Among-arcs : (d : Dest) (i : Instr) → Among d (arcs i)
-    → (b : Bool) × Among d (arcs_on b i) × (b ≡ false → two_sides i.op ≡ true)
+pub Among-arcs : (d : Dest) (i : Instr) → Among d (arcs i) → (b : Bool) × Among d (arcs_on b i) × (b ≡ false → two_sides i.op ≡ true)
 Among-arcs d i h = elim (Among-either d (arcs_on true i) (false_arcs i) h) [
   | inl first ↦ (true, first, λ e. cc)
   | inr second ↦ let t = counted (two_sides i.op) second in (false, t.1, λ _. t.0)
@@ -47,8 +44,7 @@ Among-arcs d i h = elim (Among-either d (arcs_on true i) (false_arcs i) h) [
     counted true h = (refl, h)
     counted false h = absurd h
 
-pub Among-from_arcs_on : (d : Dest) (i : Instr) (b : Bool) → (b ≡ false → two_sides i.op ≡ true) → Among d (arcs_on b i)
-    → Among d (arcs i)
+pub Among-from_arcs_on : (d : Dest) (i : Instr) (b : Bool) → (b ≡ false → two_sides i.op ≡ true) → Among d (arcs_on b i) → Among d (arcs i)
 Among-from_arcs_on d i true two h = Among-left d (arcs_on true i) (false_arcs i) h
 Among-from_arcs_on d i false two h =
     Among-right d (arcs_on true i) (false_arcs i) (subst (λ s. Among d (cond s i.others [])) (sym (two refl)) h)

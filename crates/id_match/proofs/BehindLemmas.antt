@@ -13,8 +13,7 @@ use Rattle.id_match.specs.declared.meeting.Half.{Half}
 use Rattle.id_match.specs.declared.front.Pair.{Pair}
 use Rattle.id_match.specs.declared.front.Behind.{Behind}
 use Rattle.id_match.specs.declared.front.Behind.TheVariants.{Nothing, One, Many}
-use Rattle.id_match.specs.Front.{empty_pair, place, mark_at, one_more, one_less, IsMarked, MarksSame, OthersSame}
-use Rattle.id_match.specs.Front.{half_entry}
+use Rattle.id_match.specs.Front.{empty_pair, place, mark_at, one_more, one_less, IsMarked, MarksSame, OthersSame, half_entry}
 use Rattle.id_match.specs.Waiting.{entry_at}
 use Rattle.id_match.proofs.FrontLemmas.{lookup-append, apart_places}
 
@@ -25,8 +24,7 @@ two_numbers : (m n : ℕ) → nat_eq m n ≡ false → m ≢ n
 two_numbers m n e = λ same. grind (arith, nat_tests)
 
 -- where the same waits behind
-pub halves_kept : (f : List Pair) (es fs : List (Tag × Half))
-    → ((u : Tag) → lookup (same_tag u) fs ≡ lookup (same_tag u) es) → IsMarked f es → IsMarked f fs
+pub halves_kept : (f : List Pair) (es fs : List (Tag × Half)) → ((u : Tag) → lookup (same_tag u) fs ≡ lookup (same_tag u) es) → IsMarked f es → IsMarked f fs
 halves_kept f es fs same marked = record {
   nothing = λ t some e. same t ∙ marked.nothing t some e;
   one = λ t u some e at x y. marked.one t u some e at (subst IsSome (same t) x) (subst IsSome (same u) y);
@@ -38,17 +36,14 @@ module _ (f : List Pair) (at : ℕ) (within : at < length f) (x : Pair) where
   mark_by u true e =
       ap (λ k. (get_or (set f at x) k empty_pair).first.behind) (one_number _ _ e)
       ∙ ap (λ y. y.first.behind) (get_or-set_same f at x empty_pair within)
-  mark_by u false e =
-      ap (λ y. y.first.behind) (get_or-set_other f at (place u (length f)) x empty_pair (two_numbers _ _ e))
+  mark_by u false e = ap (λ y. y.first.behind) (get_or-set_other f at (place u (length f)) x empty_pair (two_numbers _ _ e))
 
   -- what pairs tell where one was written
-  pub mark_set : (u : Tag) (b : Bool) → nat_eq (place u (length f)) at ≡ b
-      → mark_at (set f at x) u ≡ cond b x.first.behind (mark_at f u)
-  mark_set u b e =
-      ap (λ n. (get_or (set f at x) (place u n) empty_pair).first.behind) (length-set f at x) ∙ mark_by u b e
+  pub mark_set : (u : Tag) (b : Bool) → nat_eq (place u (length f)) at ≡ b → mark_at (set f at x) u ≡ cond b x.first.behind (mark_at f u)
+  mark_set u b e = ap (λ n. (get_or (set f at x) (place u n) empty_pair).first.behind) (length-set f at x) ∙ mark_by u b e
 
-  same_by : x.first.behind ≡ (get_or f at empty_pair).first.behind → (u : Tag) (b : Bool)
-      → nat_eq (place u (length f)) at ≡ b → cond b x.first.behind (mark_at f u) ≡ mark_at f u
+  same_by : x.first.behind ≡ (get_or f at empty_pair).first.behind → (u : Tag) (b : Bool) → nat_eq (place u (length f)) at ≡ b
+      → cond b x.first.behind (mark_at f u) ≡ mark_at f u
   same_by own u true e = own ∙ ap (λ k. (get_or f k empty_pair).first.behind) (sym (one_number _ _ e))
   same_by own u false e = refl
 
@@ -93,8 +88,7 @@ none_by : (o : Option Half) → (IsSome o → ⊥) → o ≡ None
 none_by None not = refl
 none_by (Some h) not = absurd (not refl)
 
-module _ (f : List Pair) (t : Tag) (some : 0 < length f) (within : place t (length f) < length f) (x : Pair)
-    (es fs : List (Tag × Half))
+module _ (f : List Pair) (t : Tag) (some : 0 < length f) (within : place t (length f) < length f) (x : Pair) (es fs : List (Tag × Half))
     (marked : IsMarked f es) (others : OthersSame t es fs) where
   abbrev here : Tag → Bool
   here u = nat_eq (place u (length f)) (place t (length f))
@@ -123,8 +117,7 @@ module _ (f : List Pair) (t : Tag) (some : 0 < length f) (within : place t (leng
   one_there : (u w : Tag) → here u ≡ false → mark_at after u ≡ One → place w (length f) ≡ place u (length f)
       → IsSome (lookup (same_tag u) fs) → IsSome (lookup (same_tag w) fs) → same_tag u w ≡ true
   one_there u w e is at a b =
-      marked.one u w some (sym (told_there u e) ∙ is) at (subst IsSome (there_same u e) a)
-      (subst IsSome (there_same w (same_there u w e at)) b)
+      marked.one u w some (sym (told_there u e) ∙ is) at (subst IsSome (there_same u e) a) (subst IsSome (there_same w (same_there u w e at)) b)
 
   module _ (tells : x.first.behind ≡ one_more (mark_at f t)) where
     nothing_more : (u : Tag) (b : Bool) → here u ≡ b → mark_at after u ≡ Nothing → lookup (same_tag u) fs ≡ None
@@ -132,11 +125,9 @@ module _ (f : List Pair) (t : Tag) (some : 0 < length f) (within : place t (leng
     nothing_more u false e is = nothing_there u e is
 
     -- where nothing stood behind, it is the new one
-    new_by : (u : Tag) → mark_at f t ≡ Nothing → here u ≡ true → (b : Bool) → same_tag t u ≡ b
-        → IsSome (lookup (same_tag u) fs) → t ≡ u
+    new_by : (u : Tag) → mark_at f t ≡ Nothing → here u ≡ true → (b : Bool) → same_tag t u ≡ b → IsSome (lookup (same_tag u) fs) → t ≡ u
     new_by u was e true same a = one_from_same_tag t u same
-    new_by u was e false apart a =
-        absurd (none_not_some _ (others u apart ∙ marked.nothing u some (one_mark u e ∙ was)) a)
+    new_by u was e false apart a = absurd (none_not_some _ (others u apart ∙ marked.nothing u some (one_mark u e ∙ was)) a)
 
     one_more_by : (u w : Tag) (b : Bool) → here u ≡ b → mark_at after u ≡ One → place w (length f) ≡ place u (length f)
         → IsSome (lookup (same_tag u) fs) → IsSome (lookup (same_tag w) fs) → same_tag u w ≡ true
@@ -152,27 +143,21 @@ module _ (f : List Pair) (t : Tag) (some : 0 < length f) (within : place t (leng
     marked_more = record {
       nothing = λ u z is. nothing_more u (here u) refl is;
       one = λ u w z is at a b.
-          one_more_by u w (here u) refl is (subst (λ n. place w n ≡ place u n) (length-set f (place t (length f)) x) at)
-          a b;
+          one_more_by u w (here u) refl is (subst (λ n. place w n ≡ place u n) (length-set f (place t (length f)) x) at) a b;
     }
 
-  module _ (tells : x.first.behind ≡ one_less (mark_at f t)) (was : IsSome (lookup (same_tag t) es))
-      (gone : lookup (same_tag t) fs ≡ None) where
+  module _ (tells : x.first.behind ≡ one_less (mark_at f t)) (was : IsSome (lookup (same_tag t) es)) (gone : lookup (same_tag t) fs ≡ None) where
     was_one : mark_at after t ≡ Nothing → mark_at f t ≡ One
     was_one is = not_many (mark_at f t) (sym tells ∙ sym (told_here t (nat_same (place t (length f)))) ∙ is)
         (λ none. none_not_some _ (marked.nothing t some none) was)
 
-    gone_by : (u : Tag) → here u ≡ true → mark_at f t ≡ One → (b : Bool) → same_tag t u ≡ b
-        → lookup (same_tag u) fs ≡ None
+    gone_by : (u : Tag) → here u ≡ true → mark_at f t ≡ One → (b : Bool) → same_tag t u ≡ b → lookup (same_tag u) fs ≡ None
     gone_by u e one true same = ap (λ w. lookup (same_tag w) fs) (sym (one_from_same_tag t u same)) ∙ gone
     gone_by u e one false apart =
-        none_by _
-        (λ a. two_truths (sym apart ∙ marked.one t u some one (one_number _ _ e) was (subst IsSome (others u apart) a)))
+        none_by _ (λ a. two_truths (sym apart ∙ marked.one t u some one (one_number _ _ e) was (subst IsSome (others u apart) a)))
 
     nothing_less : (u : Tag) (b : Bool) → here u ≡ b → mark_at after u ≡ Nothing → lookup (same_tag u) fs ≡ None
-    nothing_less u true e is =
-        gone_by u e (was_one (told_here t (nat_same (place t (length f))) ∙ sym (told_here u e) ∙ is)) (same_tag t u)
-        refl
+    nothing_less u true e is = gone_by u e (was_one (told_here t (nat_same (place t (length f))) ∙ sym (told_here u e) ∙ is)) (same_tag t u) refl
     nothing_less u false e is = nothing_there u e is
 
     one_less_by : (u w : Tag) (b : Bool) → here u ≡ b → mark_at after u ≡ One → place w (length f) ≡ place u (length f)
@@ -184,8 +169,7 @@ module _ (f : List Pair) (t : Tag) (some : 0 < length f) (within : place t (leng
     marked_less = record {
       nothing = λ u z is. nothing_less u (here u) refl is;
       one = λ u w z is at a b.
-          one_less_by u w (here u) refl is (subst (λ n. place w n ≡ place u n) (length-set f (place t (length f)) x) at)
-          a b;
+          one_less_by u w (here u) refl is (subst (λ n. place w n ≡ place u n) (length-set f (place t (length f)) x) at) a b;
     }
 
 -- ---- entries
@@ -210,8 +194,7 @@ others_more l i d inside u apart =
     ap (λ k. lookup (same_tag u) (map half_entry k)) (take_more l i d inside)
     ∙ ap (lookup (same_tag u)) (map_append (take i l) (get_or l i d ∷ []))
     ∙ lookup-append u (map half_entry (take i l)) (half_entry (get_or l i d) ∷ [])
-    ∙ ap (λ b. option_or (lookup (same_tag u) (map half_entry (take i l)))
-    (cond b (Some (half_entry (get_or l i d)).1) None))
+    ∙ ap (λ b. option_or (lookup (same_tag u) (map half_entry (take i l))) (cond b (Some (half_entry (get_or l i d)).1) None))
     (same_tag_laws.symm u (get_or l i d).tag ∙ apart)
     ∙ or_nothing (lookup (same_tag u) (map half_entry (take i l)))
 

@@ -1,8 +1,7 @@
 -- A store's entries, from those of the map that holds it.
 use Rattle.std.proofs.Common.{◌≡◌, ◌+◌, ◌<◌, Bool, true, false, cond, ◌&&◌, T, List, [], ◌∷◌, ◌↔◌, map, length, get_or}
 use Rattle.std.proofs.Common.{Option, Some, None, is_some, refl, sym, ◌∙◌, ap, subst, arith}
-use Rattle.std.specs.FinMap.{get-entries, entries_sorted, len-entries, len, len-empty, len-insert, entries}
-use Rattle.std.specs.FinMap.{from_entries, is_sorted, get}
+use Rattle.std.specs.FinMap.{get-entries, entries_sorted, len-entries, len, len-empty, len-insert, entries, from_entries, is_sorted, get}
 use Rattle.std.specs.FinMap.Entries.{below_all}
 use Rattle.std.specs.List.{IsDistinct, AllByRecursion, Contains, slice_get}
 use Rattle.std.specs.List.Sorted.{IsPermutation, IsSortedByKey}
@@ -32,13 +31,11 @@ use Rattle.id_match.proofs.WaitingLemmas.{get_half, find_half}
 -- ---- how many
 
 -- as many tags wait as the map has entries, which differ
-pub len-from_entries : (es : List (Tag × Half)) → IsDistinct same_tag (keys_of es)
-    → len (from_entries {R = tag_cmp} es) ≡ length es
+pub len-from_entries : (es : List (Tag × Half)) → IsDistinct same_tag (keys_of es) → len (from_entries {R = tag_cmp} es) ≡ length es
 len-from_entries [] distinct = len-empty tag_cmp Half
 len-from_entries (e ∷ es) distinct =
     let absent : get (from_entries {R = tag_cmp} es) e.0 ≡ None =
-    get_half es e.0
-    ∙ lookup-none (same_tag e.0) es (none_past_head same_tag_laws e.0 e es distinct (same_tag_laws.refl e.0)) in
+    get_half es e.0 ∙ lookup-none (same_tag e.0) es (none_past_head same_tag_laws e.0 e es distinct (same_tag_laws.refl e.0)) in
     let rest = len-from_entries es (IsDistinct-tail same_tag e.0 (keys_of es) distinct) in
     len-insert tags_total (from_entries es) e.0 e.1
     ∙ ap (λ o. cond (is_some o) (len (from_entries {R = tag_cmp} es)) (len (from_entries {R = tag_cmp} es) + 1)) absent
@@ -63,8 +60,7 @@ apart_by_order : (t : Tag) (es : List (Tag × Half)) → AllByRecursion (λ u. s
 apart_by_order t [] h = tt
 apart_by_order t (e ∷ es) h = (ties-same_tag t e.0 ∙ h.0, apart_by_order t es h.1)
 
-distinct_by_order : (es : List (Tag × Half)) → IsDistinct same_tag (keys_of es)
-    → IsDistinct (eq_by_cmp tag_cmp) (keys_of es)
+distinct_by_order : (es : List (Tag × Half)) → IsDistinct same_tag (keys_of es) → IsDistinct (eq_by_cmp tag_cmp) (keys_of es)
 unfolding IsDistinct
 distinct_by_order [] h = tt
 distinct_by_order (e ∷ es) h = (apart_by_order e.0 es h.0, distinct_by_order es h.1)
@@ -74,8 +70,7 @@ pub entries_of-from_entries : (es : List (Tag × Half)) (fs : List Entry) → Is
     → IsPermutation (map entry_at es) fs → IsSortedByKey (λ e. e.tag) tag_cmp fs → fs ≡ entries_of (from_entries es)
 entries_of-from_entries es fs distinct perm sorted =
     let moved : IsPermutation es (map half_of fs) =
-    subst (λ l. IsPermutation l (map half_of fs)) (half_of-entry_at es)
-    (IsPermutation-map half_of (map entry_at es) fs perm) in
+    subst (λ l. IsPermutation l (map half_of fs)) (half_of-entry_at es) (IsPermutation-map half_of (map entry_at es) fs perm) in
     sym (entry_at-half_of fs)
     ∙ ap (map entry_at)
     (entries-from_sort tag_cmp tags_total exact_tags (λ e. e.tag) (λ e. record { port = e.port; value = e.value })
@@ -96,8 +91,7 @@ second : (a b : Bool) → T (a && b) → T b
 second true b h = h
 second false b h = absurd h
 
-apart_from_below : (t : Tag) (es : List (Tag × Half)) → T (below_all tag_cmp t es)
-    → AllByRecursion (λ u. same_tag t u ≡ false) (keys_of es)
+apart_from_below : (t : Tag) (es : List (Tag × Half)) → T (below_all tag_cmp t es) → AllByRecursion (λ u. same_tag t u ≡ false) (keys_of es)
 apart_from_below t [] h = tt
 apart_from_below t (e ∷ es) h =
     (sym (ties-same_tag t e.0) ∙ not_equal _ (first _ _ h), apart_from_below t es (second _ _ h))
@@ -105,8 +99,7 @@ apart_from_below t (e ∷ es) h =
 pub distinct_from_is_sorted : (es : List (Tag × Half)) → T (is_sorted tag_cmp es) → IsDistinct same_tag (keys_of es)
 distinct_from_is_sorted [] h = IsDistinct-from_apart same_tag [] (λ i j d low high. absurd (omega arith))
 distinct_from_is_sorted (e ∷ es) h =
-    IsDistinct-cons same_tag e.0 (keys_of es) (apart_from_below e.0 es (first _ _ h))
-    (distinct_from_is_sorted es (second _ _ h))
+    IsDistinct-cons same_tag e.0 (keys_of es) (apart_from_below e.0 es (first _ _ h)) (distinct_from_is_sorted es (second _ _ h))
 
 -- what a store has at a tag is what its entries have there
 pub get-lookup : (s : Store) (t : Tag) → get s t ≡ lookup (same_tag t) (entries s)
@@ -130,8 +123,7 @@ own_port One v = refl
 listed_from_waits : (s : Store) (e : Entry) → waits s e.tag e.port ≡ Some e.value → Contains (entries_of s) e
 listed_from_waits s e waiting =
     let h : Half = record { port = e.port; value = e.value } in
-    let found : lookup (same_tag e.tag) (entries s) ≡ Some h =
-    sym (get-lookup s e.tag) ∙ the_half (get s e.tag) e.port e.value waiting in
+    let found : lookup (same_tag e.tag) (entries s) ≡ Some h = sym (get-lookup s e.tag) ∙ the_half (get s e.tag) e.port e.value waiting in
     let place = place_from_lookup (same_tag e.tag) (entries s) h found in
     let at : slice_get (entries s) place.0 ≡ Some (e.tag, h) =
     place.2 ∙ ap (λ t. Some (t, h)) (sym (one_from_same_tag e.tag place.1 place.3)) in

@@ -1,8 +1,6 @@
 -- Lemmas on specs/Rear.antt.
-use Rattle.std.proofs.Common.{◌≡◌, ◌≢◌, ℕ, zero, suc, ◌<◌, drop, drop-cons, Bool, true, false, cond, ◌&&◌, nat_eq, List}
-use Rattle.std.proofs.Common.{[], ◌∷◌, ◌++◌}
-use Rattle.std.proofs.Common.{length, get_or, Option, Some, None, IsSome, is_some, IfSome, IsTrue, IsPermutation}
-use Rattle.std.proofs.Common.{Result, swap_remove, insert, refl, sym, ◌∙◌}
+use Rattle.std.proofs.Common.{◌≡◌, ◌≢◌, ℕ, zero, suc, ◌<◌, drop, drop-cons, Bool, true, false, cond, ◌&&◌, nat_eq, List, [], ◌∷◌, ◌++◌}
+use Rattle.std.proofs.Common.{length, get_or, Option, Some, None, IsSome, is_some, IfSome, IsTrue, IsPermutation, Result, swap_remove, insert, refl, sym, ◌∙◌}
 use Rattle.std.proofs.Common.{ap, subst, arith}
 use Rattle.std.specs.Cmp.{IsEquivalence}
 use Rattle.std.specs.List.{IsDistinct, Contains}
@@ -13,8 +11,7 @@ use Rattle.std.proofs.lemmas.Bool.Decides.{nat_tests}
 use Rattle.std.proofs.lemmas.Cmp.{nat_eq_equiv}
 use Rattle.std.proofs.lemmas.Grind.{common_steps}
 use Rattle.std.proofs.lemmas.List.{map-append}
-use Rattle.std.proofs.lemmas.List.Sorted.{IsPermutation-map, IsPermutation-sym, IsPermutation-swap_remove}
-use Rattle.std.proofs.lemmas.List.Sorted.{Contains-permutation}
+use Rattle.std.proofs.lemmas.List.Sorted.{IsPermutation-map, IsPermutation-sym, IsPermutation-swap_remove, Contains-permutation}
 use Rattle.std.proofs.lemmas.Map.{lookup-none, none_passes_from_lookup, lookup-insert}
 use Rattle.std.proofs.lemmas.Map.Entries.{none_past_head, place_from_lookup, lookup_from_place}
 use Rattle.std.proofs.lemmas.Map.Keys.{IsDistinct-cons, IsDistinct-tail, IsDistinct-push, IsDistinct-IsPermutation}
@@ -31,10 +28,8 @@ use Rattle.id_match.specs.declared.rear.Frame.{Frame}
 use Rattle.id_match.specs.declared.rear.Name.{Name}
 use Rattle.id_match.specs.declared.rear.Came.TheVariants.{Kept}
 use Rattle.id_match.specs.Halves.{answer_at, half_after}
-use Rattle.id_match.specs.Rear.{name_of, same_name, tag_at, halves_in, halves_by, halves_of, rear_half, frame_entries}
-use Rattle.id_match.specs.Rear.{rear_entries}
-use Rattle.id_match.specs.Rear.{IsFramed, IsOffered, IsOfferedAt, Sets, Holds, MakesFrame, Tells, TellsOf, WritesFrame}
-use Rattle.id_match.specs.Rear.{after_came, after_said}
+use Rattle.id_match.specs.Rear.{name_of, same_name, tag_at, halves_in, halves_by, halves_of, rear_half, frame_entries, rear_entries}
+use Rattle.id_match.specs.Rear.{IsFramed, IsOffered, IsOfferedAt, Sets, Holds, MakesFrame, Tells, TellsOf, WritesFrame, after_came, after_said}
 use Rattle.id_match.proofs.FrontLemmas.{lookup-append, not_passed, numbers_one, numbers_apart}
 
 -- ---- names
@@ -59,8 +54,7 @@ pub name_laws : IsEquivalence same_name
 name_laws = record {
   refl = λ n. sym (ties n n) ∙ same_tag_laws.refl (tag_at n 0);
   symm = λ m n. sym (ties m n) ∙ same_tag_laws.symm (tag_at m 0) (tag_at n 0) ∙ ties n m;
-  congr = λ m n o e. sym (ties m o) ∙ same_tag_laws.congr (tag_at m 0) (tag_at n 0) (tag_at o 0) (ties m n ∙ e)
-      ∙ ties n o;
+  congr = λ m n o e. sym (ties m o) ∙ same_tag_laws.congr (tag_at m 0) (tag_at n 0) (tag_at o 0) (ties m n ∙ e) ∙ ties n o;
 }
 
 pub one_name : (m n : Name) → same_name m n ≡ true → m ≡ n
@@ -72,8 +66,7 @@ no_half : (b : Bool) → ◌≡◌ {A = Option Half} None (cond b None None)
 no_half true = refl
 no_half false = refl
 
-one_step : (b c : Bool) (h : Half) (r s : Option Half) → r ≡ cond b s None
-    → cond (b && c) (Some h) r ≡ cond b (cond c (Some h) s) None
+one_step : (b c : Bool) (h : Half) (r s : Option Half) → r ≡ cond b s None → cond (b && c) (Some h) r ≡ cond b (cond c (Some h) s) None
 one_step true c h r s e = ap (cond c (Some h)) e
 one_step false c h r s e = e
 
@@ -94,8 +87,7 @@ pub lookup-rear : (frames : Slab Frame) (keys : List (Name × ℕ)) (t : Tag) �
 lookup-rear frames [] t distinct = refl
 lookup-rear frames (e ∷ keys) t distinct =
     lookup-append t (frame_entries e.0 (halves_in (get frames e.1))) (rear_entries keys frames)
-    ∙ ap (λ o. option_or o (lookup (same_tag t) (rear_entries keys frames)))
-    (lookup-frame e.0 (halves_in (get frames e.1)) t)
+    ∙ ap (λ o. option_or o (lookup (same_tag t) (rear_entries keys frames))) (lookup-frame e.0 (halves_in (get frames e.1)) t)
     ∙ ap (option_or (cond (same_name (name_of t) e.0) (lookup (nat_eq t.instr) (halves_in (get frames e.1))) None))
     (lookup-rear frames keys t (IsDistinct-tail same_name e.0 (keys_of keys) distinct))
     ∙ by_name (same_name (name_of t) e.0) refl
@@ -104,17 +96,15 @@ lookup-rear frames (e ∷ keys) t distinct =
         → option_or (cond b (lookup (nat_eq t.instr) (halves_in (get frames e.1))) None) (rear_half keys frames t)
         ≡ lookup (nat_eq t.instr) (halves_by frames (cond b (Some e.1) (lookup (same_name (name_of t)) keys)))
     by_name true is =
-        ap (λ o. option_or (lookup (nat_eq t.instr) (halves_in (get frames e.1)))
-        (lookup (nat_eq t.instr) (halves_by frames o)))
+        ap (λ o. option_or (lookup (nat_eq t.instr) (halves_in (get frames e.1))) (lookup (nat_eq t.instr) (halves_by frames o)))
         (lookup-none (same_name (name_of t)) keys (none_past_head name_laws (name_of t) e keys distinct is))
         ∙ or_none (lookup (nat_eq t.instr) (halves_in (get frames e.1)))
     by_name false is = refl
 
 -- ---- the tags differ
 
-distinct_frame : (n : Name) (hs : List (ℕ × Half)) (es : List (Tag × Half)) → IsDistinct nat_eq (keys_of hs)
-    → IsDistinct same_tag (keys_of es) → ((i : ℕ) → lookup (same_tag (tag_at n i)) es ≡ None)
-    → IsDistinct same_tag (keys_of (frame_entries n hs ++ es))
+distinct_frame : (n : Name) (hs : List (ℕ × Half)) (es : List (Tag × Half)) → IsDistinct nat_eq (keys_of hs) → IsDistinct same_tag (keys_of es)
+    → ((i : ℕ) → lookup (same_tag (tag_at n i)) es ≡ None) → IsDistinct same_tag (keys_of (frame_entries n hs ++ es))
 distinct_frame n [] es single distinct none = distinct
 distinct_frame n (h ∷ hs) es single distinct none =
     let own : lookup (nat_eq h.0) hs ≡ None =
@@ -129,14 +119,12 @@ distinct_frame n (h ∷ hs) es single distinct none =
     (distinct_frame n hs es (IsDistinct-tail nat_eq h.0 (keys_of hs) single) distinct none)
 
 pub distinct_rear : (frames : Slab Frame) (keys : List (Name × ℕ)) → IsDistinct same_name (keys_of keys)
-    → ((key : ℕ) → IsDistinct nat_eq (keys_of (halves_in (get frames key))))
-    → IsDistinct same_tag (keys_of (rear_entries keys frames))
+    → ((key : ℕ) → IsDistinct nat_eq (keys_of (halves_in (get frames key)))) → IsDistinct same_tag (keys_of (rear_entries keys frames))
 unfolding IsDistinct
 distinct_rear frames [] distinct single = tt
 distinct_rear frames (e ∷ keys) distinct single =
     let rest : IsDistinct same_name (keys_of keys) = IsDistinct-tail same_name e.0 (keys_of keys) distinct in
-    distinct_frame e.0 (halves_in (get frames e.1)) (rear_entries keys frames) (single e.1)
-    (distinct_rear frames keys rest single)
+    distinct_frame e.0 (halves_in (get frames e.1)) (rear_entries keys frames) (single e.1) (distinct_rear frames keys rest single)
     (λ i. lookup-rear frames keys (tag_at e.0 i) rest
     ∙ ap (λ o. lookup (nat_eq i) (halves_by frames o))
     (lookup-none (same_name e.0) keys (none_past_head name_laws e.0 e keys distinct (name_laws.refl e.0))))
@@ -147,8 +135,7 @@ push_is : (p : List (ℕ × Half)) (x : ℕ × Half) → insert p (length p) x �
 push_is p x = grind (arith, common_steps)
 
 -- a value comes to wait
-pub sets_push : (p : List (ℕ × Half)) (i : ℕ) (h : Half) → lookup (nat_eq i) p ≡ None
-    → Sets p (p ++ (i, h) ∷ []) i (Some h)
+pub sets_push : (p : List (ℕ × Half)) (i : ℕ) (h : Half) → lookup (nat_eq i) p ≡ None → Sets p (p ++ (i, h) ∷ []) i (Some h)
 sets_push p i h none = record {
   single = λ distinct.
       subst (IsDistinct nat_eq) (sym (map-append (λ e. e.0) p ((i, h) ∷ [])))
@@ -158,42 +145,36 @@ sets_push p i h none = record {
       ∙ lookup-insert nat_eq_equiv i h j p (length p) (none_passes_from_lookup (nat_eq i) p none);
 }
 
-found_in : (p q : List (ℕ × Half)) → IsPermutation p q → IsDistinct nat_eq (keys_of q) → (j : ℕ) (h : Half)
-    → lookup (nat_eq j) p ≡ Some h → lookup (nat_eq j) q ≡ Some h
+found_in : (p q : List (ℕ × Half)) → IsPermutation p q → IsDistinct nat_eq (keys_of q) → (j : ℕ) (h : Half) → lookup (nat_eq j) p ≡ Some h
+    → lookup (nat_eq j) q ≡ Some h
 found_in p q shuffled distinct j h found =
     let at = place_from_lookup (nat_eq j) p h found in
-    let listed : Contains p (at.1, h) =
-    (at.0, slice_get_within p at.0 (at.1, h) at.2, get_or_from_slice_get p at.0 (at.1, h) (at.1, h) at.2) in
+    let listed : Contains p (at.1, h) = (at.0, slice_get_within p at.0 (at.1, h) at.2, get_or_from_slice_get p at.0 (at.1, h) (at.1, h) at.2) in
     let there : Contains q (at.1, h) = Contains-permutation p q (at.1, h) shuffled listed in
     ap (λ k. lookup (nat_eq k) q) (numbers_one j at.1 at.3)
-    ∙ lookup_from_place nat_eq_equiv q there.0 at.1 h distinct (slice_get-get_or q there.0 (at.1, h) there.1
-    ∙ ap Some there.2)
+    ∙ lookup_from_place nat_eq_equiv q there.0 at.1 h distinct (slice_get-get_or q there.0 (at.1, h) there.1 ∙ ap Some there.2)
 
-same_found : (o r : Option Half) → ((h : Half) → o ≡ Some h → r ≡ Some h) → ((h : Half) → r ≡ Some h → o ≡ Some h)
-    → o ≡ r
+same_found : (o r : Option Half) → ((h : Half) → o ≡ Some h → r ≡ Some h) → ((h : Half) → r ≡ Some h → o ≡ Some h) → o ≡ r
 same_found None None f g = refl
 same_found None (Some h) f g = g h refl
 same_found (Some h) r f g = sym (f h refl)
 
 -- a shuffle of a frame keeps what waits
-shuffle_keeps : (p q : List (ℕ × Half)) → IsPermutation p q → IsDistinct nat_eq (keys_of p)
-    → IsDistinct nat_eq (keys_of q) → (j : ℕ) → lookup (nat_eq j) p ≡ lookup (nat_eq j) q
+shuffle_keeps : (p q : List (ℕ × Half)) → IsPermutation p q → IsDistinct nat_eq (keys_of p) → IsDistinct nat_eq (keys_of q) → (j : ℕ)
+    → lookup (nat_eq j) p ≡ lookup (nat_eq j) q
 shuffle_keeps p q shuffled one other j =
     same_found _ _ (found_in p q shuffled other j) (found_in q p (IsPermutation-sym p q shuffled) one j)
 
 -- a value leaves
-pub sets_taken : (p : List (ℕ × Half)) (at : ℕ) (x : ℕ × Half) (q : List (ℕ × Half)) (i : ℕ) → at < length p
-    → x ≡ get_or p at x → x.0 ≡ i → q ≡ swap_remove p at x → Sets p q i None
-sets_taken p at x q i within is own left =
-    record { single = λ distinct. IsDistinct-tail nat_eq x.0 (keys_of q) (moved distinct); under = under }
+pub sets_taken : (p : List (ℕ × Half)) (at : ℕ) (x : ℕ × Half) (q : List (ℕ × Half)) (i : ℕ) → at < length p → x ≡ get_or p at x → x.0 ≡ i
+    → q ≡ swap_remove p at x → Sets p q i None
+sets_taken p at x q i within is own left = record { single = λ distinct. IsDistinct-tail nat_eq x.0 (keys_of q) (moved distinct); under = under }
   where
     shuffled : IsPermutation p (x ∷ q)
     shuffled = subst (λ l. IsPermutation p (x ∷ l)) (sym left) (IsPermutation-swap_remove p at x within is)
 
     moved : IsDistinct nat_eq (keys_of p) → IsDistinct nat_eq (keys_of (x ∷ q))
-    moved distinct =
-        IsDistinct-IsPermutation nat_eq nat_eq_equiv.symm (keys_of p) (keys_of (x ∷ q))
-        (IsPermutation-map (λ e. e.0) p (x ∷ q) shuffled) distinct
+    moved distinct = IsDistinct-IsPermutation nat_eq nat_eq_equiv.symm (keys_of p) (keys_of (x ∷ q)) (IsPermutation-map (λ e. e.0) p (x ∷ q) shuffled) distinct
 
     under_by : IsDistinct nat_eq (keys_of p) → (j : ℕ) (b : Bool) → nat_eq j x.0 ≡ b
         → lookup (nat_eq j) q ≡ cond b None (cond b (Some x.1) (lookup (nat_eq j) q))
@@ -210,16 +191,14 @@ sets_taken p at x q i within is own left =
 pub sets_same : (p : List (ℕ × Half)) (i : ℕ) → Sets p p i (lookup (nat_eq i) p)
 sets_same p i = record { single = λ distinct. distinct; under = λ distinct j. by_number j (nat_eq i j) refl }
   where
-    by_number : (j : ℕ) (b : Bool) → nat_eq i j ≡ b
-        → lookup (nat_eq j) p ≡ cond b (lookup (nat_eq i) p) (lookup (nat_eq j) p)
+    by_number : (j : ℕ) (b : Bool) → nat_eq i j ≡ b → lookup (nat_eq j) p ≡ cond b (lookup (nat_eq i) p) (lookup (nat_eq j) p)
     by_number j true e = ap (λ k. lookup (nat_eq k) p) (sym (numbers_one i j e))
     by_number j false e = refl
 
 -- ---- the table and the slab
 
 -- the table has this at the name n, and what it had at each other, and the slab has that at this key
-module _ (keys : List (Name × ℕ)) (frames : Slab Frame) (more : List (Name × ℕ)) (slab : Slab Frame) (n : Name)
-    (key : ℕ)
+module _ (keys : List (Name × ℕ)) (frames : Slab Frame) (more : List (Name × ℕ)) (slab : Slab Frame) (n : Name) (key : ℕ)
     (named : Option ℕ) (frame : Option Frame) (was : IsFramed keys frames)
     (tells : (m : Name) → lookup (same_name m) more ≡ cond (same_name n m) named (lookup (same_name m) keys))
     (updates : Updates frames slab key frame)
@@ -227,31 +206,26 @@ module _ (keys : List (Name × ℕ)) (frames : Slab Frame) (more : List (Name ×
   away : (m : Name) (k : ℕ) → same_name n m ≡ false → lookup (same_name m) keys ≡ Some k → k ≢ key
   away m k apart e = λ same. alone m apart (e ∙ ap Some same)
 
-  stays_by : (m : Name) (o : Option ℕ) → lookup (same_name m) keys ≡ o → same_name n m ≡ false
-      → halves_by slab o ≡ halves_by frames o
+  stays_by : (m : Name) (o : Option ℕ) → lookup (same_name m) keys ≡ o → same_name n m ≡ false → halves_by slab o ≡ halves_by frames o
   stays_by m None e apart = refl
   stays_by m (Some k) e apart = ap halves_in (updates.others k (away m k apart e))
 
   under_by : (m : Name) (b : Bool) → same_name n m ≡ b
-      → halves_by slab (cond b named (lookup (same_name m) keys))
-      ≡ cond b (halves_by slab named) (halves_of keys frames m)
+      → halves_by slab (cond b named (lookup (same_name m) keys)) ≡ cond b (halves_by slab named) (halves_of keys frames m)
   under_by m true e = refl
   under_by m false e = stays_by m (lookup (same_name m) keys) refl e
 
   pub under : (m : Name) → halves_of more slab m ≡ cond (same_name n m) (halves_by slab named) (halves_of keys frames m)
   under m = ap (halves_by slab) (tells m) ∙ under_by m (same_name n m) refl
 
-  module _ (unique : IsDistinct same_name (keys_of more)) (at : (k : ℕ) → named ≡ Some k
-      → (k ≡ key) × ContainsKey slab k)
+  module _ (unique : IsDistinct same_name (keys_of more)) (at : (k : ℕ) → named ≡ Some k → (k ≡ key) × ContainsKey slab k)
       (single : IsDistinct nat_eq (keys_of (halves_in frame))) where
-    held_by : (m : Name) (k : ℕ) (b : Bool) → same_name n m ≡ b → cond b named (lookup (same_name m) keys) ≡ Some k
-        → ContainsKey slab k
+    held_by : (m : Name) (k : ℕ) (b : Bool) → same_name n m ≡ b → cond b named (lookup (same_name m) keys) ≡ Some k → ContainsKey slab k
     held_by m k true e is = (at k is).1
     held_by m k false e is = subst IsSome (sym (updates.others k (away m k e is))) (was.held m k is)
 
-    apart_by : (l m : Name) (k : ℕ) (b c : Bool) → same_name n l ≡ b → same_name n m ≡ c
-        → cond b named (lookup (same_name l) keys) ≡ Some k → cond c named (lookup (same_name m) keys) ≡ Some k
-        → same_name l m ≡ true
+    apart_by : (l m : Name) (k : ℕ) (b c : Bool) → same_name n l ≡ b → same_name n m ≡ c → cond b named (lookup (same_name l) keys) ≡ Some k
+        → cond c named (lookup (same_name m) keys) ≡ Some k → same_name l m ≡ true
     apart_by l m k true true d e is so = sym (name_laws.congr n l m d) ∙ e
     apart_by l m k true false d e is so = absurd (away m k e so (at k is).0)
     apart_by l m k false true d e is so = absurd (away l k d is (at k so).0)
@@ -259,24 +233,20 @@ module _ (keys : List (Name × ℕ)) (frames : Slab Frame) (more : List (Name ×
 
     single_by : (k : ℕ) (b : Bool) → nat_eq k key ≡ b → IsDistinct nat_eq (keys_of (halves_in (get slab k)))
     single_by k true e =
-        subst (λ o. IsDistinct nat_eq (keys_of (halves_in o)))
-        (sym (ap (get slab) (numbers_one k key e) ∙ updates.changed)) single
+        subst (λ o. IsDistinct nat_eq (keys_of (halves_in o))) (sym (ap (get slab) (numbers_one k key e) ∙ updates.changed)) single
     single_by k false e =
-        subst (λ o. IsDistinct nat_eq (keys_of (halves_in o))) (sym (updates.others k (numbers_apart k key e)))
-        (was.single k)
+        subst (λ o. IsDistinct nat_eq (keys_of (halves_in o))) (sym (updates.others k (numbers_apart k key e))) (was.single k)
 
     pub framed : IsFramed more slab
     framed = record {
       unique = unique;
       held = λ m k e. held_by m k (same_name n m) refl (sym (tells m) ∙ e);
-      apart = λ l m k d e. apart_by l m k (same_name n l) (same_name n m) refl refl (sym (tells l) ∙ d) (sym (tells m)
-          ∙ e);
+      apart = λ l m k d e. apart_by l m k (same_name n l) (same_name n m) refl refl (sym (tells l) ∙ d) (sym (tells m) ∙ e);
       single = λ k. single_by k (nat_eq k key) refl;
     }
 
 -- a frame holds other values, and each other what it held
-module _ (keys : List (Name × ℕ)) (frames : Slab Frame) (more : List (Name × ℕ)) (slab : Slab Frame) (t : Tag)
-    (n : Name) (own : n ≡ name_of t)
+module _ (keys : List (Name × ℕ)) (frames : Slab Frame) (more : List (Name × ℕ)) (slab : Slab Frame) (t : Tag) (n : Name) (own : n ≡ name_of t)
     (p q : List (ℕ × Half)) (o : Option Half) (held : halves_of keys frames n ≡ p)
     (under : (m : Name) → halves_of more slab m ≡ cond (same_name n m) q (halves_of keys frames m))
     (sets : (j : ℕ) → lookup (nat_eq j) q ≡ cond (nat_eq t.instr j) o (lookup (nat_eq j) p)) where
@@ -296,20 +266,19 @@ module _ (keys : List (Name × ℕ)) (frames : Slab Frame) (more : List (Name ×
   there : (u : Tag) → same_tag t u ≡ false → rear_half more slab u ≡ rear_half keys frames u
   there u apart =
       ap (lookup (nat_eq u.instr)) (under (name_of u))
-      ∙ there_by u (same_name n (name_of u)) refl (ap (λ m. same_name m (name_of u) && nat_eq t.instr u.instr) own
-      ∙ sym (split t u) ∙ apart)
+      ∙ there_by u (same_name n (name_of u)) refl (ap (λ m. same_name m (name_of u) && nat_eq t.instr u.instr) own ∙ sym (split t u) ∙ apart)
 
 -- room for more frames changes none
-pub updates_reserved : (frames room slab : Slab Frame) (c key : ℕ) (o : Option Frame)
-    → room ≡ record frames { capacity = c } → Updates room slab key o → Updates frames slab key o
+pub updates_reserved : (frames room slab : Slab Frame) (c key : ℕ) (o : Option Frame) → room ≡ record frames { capacity = c }
+    → Updates room slab key o → Updates frames slab key o
 updates_reserved frames room slab c key o same updates = record {
   changed = updates.changed;
   others = λ k away. updates.others k away ∙ ap (λ s. get s k) same;
 }
 
 -- a frame that was written is taken
-pub updates_twice : (frames mid slab : Slab Frame) (key : ℕ) (o q : Option Frame) → Updates frames mid key o
-    → Updates mid slab key q → Updates frames slab key q
+pub updates_twice : (frames mid slab : Slab Frame) (key : ℕ) (o q : Option Frame) → Updates frames mid key o → Updates mid slab key q
+    → Updates frames slab key q
 updates_twice frames mid slab key o q first last = record {
   changed = last.changed;
   others = λ k away. last.others k away ∙ first.others k away;
@@ -332,8 +301,7 @@ one_key a b e = cc
 no_key : (k : ℕ) → ◌≡◌ {A = Option ℕ} None (Some k) → ⊥
 no_key k e = cc
 
-module _ (keys : List (Name × ℕ)) (frames : Slab Frame) (was : IsFramed keys frames) (t : Tag) (n : Name)
-    (own : n ≡ name_of t) (key : ℕ)
+module _ (keys : List (Name × ℕ)) (frames : Slab Frame) (was : IsFramed keys frames) (t : Tag) (n : Name) (own : n ≡ name_of t) (key : ℕ)
     (more : List (Name × ℕ)) (slab : Slab Frame) where
   -- a frame is made for a value
   pub made : (f : Frame) (h : Half) → lookup (same_name n) keys ≡ None → get frames key ≡ None
@@ -347,8 +315,7 @@ module _ (keys : List (Name × ℕ)) (frames : Slab Frame) (was : IsFramed keys 
       λ k e. (one_key key k e, subst (λ j. ContainsKey slab j) (sym (one_key key k e)) (ap is_some updates.changed)) in
       let holds : halves_in (get slab key) ≡ (t.instr, h) ∷ [] = ap halves_in updates.changed ∙ only in
       let held : halves_of keys frames n ≡ [] = ap (halves_by frames) absent in
-      let sets : (j : ℕ)
-      → lookup (nat_eq j) (halves_in (get slab key)) ≡ cond (nat_eq t.instr j) (Some h) (lookup (nat_eq j) []) =
+      let sets : (j : ℕ) → lookup (nat_eq j) (halves_in (get slab key)) ≡ cond (nat_eq t.instr j) (Some h) (lookup (nat_eq j) []) =
       λ j. ap (lookup (nat_eq j)) holds ∙ ap (λ b. cond b (Some h) None) (nat_eq_equiv.symm j t.instr) in
       let below = under keys frames more slab n key (Some key) (Some f) was tells updates alone in
       record {
@@ -358,8 +325,7 @@ module _ (keys : List (Name × ℕ)) (frames : Slab Frame) (was : IsFramed keys 
         there = there keys frames more slab t n own [] (halves_in (get slab key)) (Some h) held below sets;
       }
 
-  module _ (found : lookup (same_name n) keys ≡ Some key) (p : List (ℕ × Half)) (had : halves_in (get frames key) ≡ p)
-      (o : Option Half) where
+  module _ (found : lookup (same_name n) keys ≡ Some key) (p : List (ℕ × Half)) (had : halves_in (get frames key) ≡ p) (o : Option Half) where
     alone : (m : Name) → same_name n m ≡ false → lookup (same_name m) keys ≡ Some key → ⊥
     alone m apart e = two_truths (sym (was.apart n m key found e) ∙ apart)
 
@@ -369,25 +335,18 @@ module _ (keys : List (Name × ℕ)) (frames : Slab Frame) (was : IsFramed keys 
     distinct : IsDistinct nat_eq (keys_of p)
     distinct = subst (λ l. IsDistinct nat_eq (keys_of l)) had (was.single key)
 
-    named_by : (m : Name) (b : Bool) → same_name n m ≡ b
-        → lookup (same_name m) keys ≡ cond b (Some key) (lookup (same_name m) keys)
+    named_by : (m : Name) (b : Bool) → same_name n m ≡ b → lookup (same_name m) keys ≡ cond b (Some key) (lookup (same_name m) keys)
     named_by m true e = ap (λ w. lookup (same_name w) keys) (sym (one_name n m e)) ∙ found
     named_by m false e = refl
 
     -- a frame that stays is written
-    pub wrote : (f : Frame) → more ≡ keys → Updates frames slab key (Some f) → Sets p f.halves.items t.instr o
-        → Holds keys frames more slab t o
+    pub wrote : (f : Frame) → more ≡ keys → Updates frames slab key (Some f) → Sets p f.halves.items t.instr o → Holds keys frames more slab t o
     wrote f same updates sets =
-        let tells : (m : Name)
-        → lookup (same_name m) more ≡ cond (same_name n m) (Some key) (lookup (same_name m) keys) =
+        let tells : (m : Name) → lookup (same_name m) more ≡ cond (same_name n m) (Some key) (lookup (same_name m) keys) =
         λ m. ap (lookup (same_name m)) same ∙ named_by m (same_name n m) refl in
         let at : (k : ℕ) → ◌≡◌ {A = Option ℕ} (Some key) (Some k) → (k ≡ key) × ContainsKey slab k =
-        λ k e. (
-          one_key key k e,
-          subst (λ j. ContainsKey slab j) (sym (one_key key k e)) (ap is_some updates.changed),
-        ) in
-        let set : (j : ℕ)
-        → lookup (nat_eq j) (halves_in (get slab key)) ≡ cond (nat_eq t.instr j) o (lookup (nat_eq j) p) =
+        λ k e. (one_key key k e, subst (λ j. ContainsKey slab j) (sym (one_key key k e)) (ap is_some updates.changed)) in
+        let set : (j : ℕ) → lookup (nat_eq j) (halves_in (get slab key)) ≡ cond (nat_eq t.instr j) o (lookup (nat_eq j) p) =
         λ j. ap (λ f. lookup (nat_eq j) (halves_in f)) updates.changed ∙ sets.under distinct j in
         let below = under keys frames more slab n key (Some key) (Some f) was tells updates alone in
         record {
@@ -399,15 +358,12 @@ module _ (keys : List (Name × ℕ)) (frames : Slab Frame) (was : IsFramed keys 
 
     -- a frame in which nothing waits any longer is given back
     pub left : ((m : Name) → lookup (same_name m) more ≡ cond (same_name n m) None (lookup (same_name m) keys))
-        → IsDistinct same_name (keys_of more) → Updates frames slab key None → Sets p [] t.instr o
-        → Holds keys frames more slab t o
+        → IsDistinct same_name (keys_of more) → Updates frames slab key None → Sets p [] t.instr o → Holds keys frames more slab t o
     left tells unique updates sets =
-        let at : (k : ℕ) → ◌≡◌ {A = Option ℕ} None (Some k) → (k ≡ key) × ContainsKey slab k =
-        λ k e. absurd (no_key k e) in
+        let at : (k : ℕ) → ◌≡◌ {A = Option ℕ} None (Some k) → (k ≡ key) × ContainsKey slab k = λ k e. absurd (no_key k e) in
         let below = under keys frames more slab n key None None was tells updates alone in
         record {
-          framed = framed keys frames more slab n key None None was tells updates alone unique at
-              (sets.single distinct);
+          framed = framed keys frames more slab n key None None was tells updates alone unique at (sets.single distinct);
           here = here keys frames more slab t n own p [] o held below (sets.under distinct);
           there = there keys frames more slab t n own p [] o held below (sets.under distinct);
         }
@@ -423,13 +379,11 @@ tells_kept h short room o none roomy = record {
   full = λ e. cc;
 }
 
-module _ (keys : List (Name × ℕ)) (frames : Slab Frame) (was : IsFramed keys frames) (t : Tag) (n : Name)
-    (own : n ≡ name_of t) where
+module _ (keys : List (Name × ℕ)) (frames : Slab Frame) (was : IsFramed keys frames) (t : Tag) (n : Name) (own : n ≡ name_of t) where
   -- what waits under a tag whose name the table has not
   pub none_in : lookup (same_name n) keys ≡ None → rear_half keys frames t ≡ None
   none_in absent =
-      ap (λ m. lookup (nat_eq t.instr) (halves_of keys frames m)) (sym own)
-      ∙ ap (λ o. lookup (nat_eq t.instr) (halves_by frames o)) absent
+      ap (λ m. lookup (nat_eq t.instr) (halves_of keys frames m)) (sym own) ∙ ap (λ o. lookup (nat_eq t.instr) (halves_by frames o)) absent
 
   pub made_in : (more : List (Name × ℕ)) (slab : Slab Frame) (key : ℕ) (h : Half) → lookup (same_name n) keys ≡ None
       → ((m : Name) → lookup (same_name m) more ≡ cond (same_name n m) (Some key) (lookup (same_name m) keys))
@@ -437,19 +391,16 @@ module _ (keys : List (Name × ℕ)) (frames : Slab Frame) (was : IsFramed keys 
       → Holds keys frames more slab t (half_after (rear_half keys frames t) h.port h.value)
   made_in more slab key h absent tells unique makes =
       subst (Holds keys frames more slab t) (sym (ap (λ o. half_after o h.port h.value) (none_in absent)))
-      (made keys frames was t n own key more slab makes.frame h absent makes.vacant tells unique makes.updates
-      makes.only)
+      (made keys frames was t n own key more slab makes.frame h absent makes.vacant tells unique makes.updates makes.only)
 
   module _ (key : ℕ) (found : lookup (same_name n) keys ≡ Some key) where
     -- what waits under a tag stands in its frame
     pub half_in : rear_half keys frames t ≡ lookup (nat_eq t.instr) (halves_in (get frames key))
     half_in =
-        ap (λ m. lookup (nat_eq t.instr) (halves_of keys frames m)) (sym own)
-        ∙ ap (λ o. lookup (nat_eq t.instr) (halves_by frames o)) found
+        ap (λ m. lookup (nat_eq t.instr) (halves_of keys frames m)) (sym own) ∙ ap (λ o. lookup (nat_eq t.instr) (halves_by frames o)) found
 
     -- an offer to the frame of a name, which stays with it or leaves with it
-    module _ (more : List (Name × ℕ)) (slab : Slab Frame) (h : Half) (short room : Bool) (r : Result Came AllocError)
-        (left_it : Bool)
+    module _ (more : List (Name × ℕ)) (slab : Slab Frame) (h : Half) (short room : Bool) (r : Result Came AllocError) (left_it : Bool)
         (at : IsOfferedAt frames slab key t.instr h short room r left_it) where
       abbrev came : Option Half
       came = after_came r h (lookup (nat_eq t.instr) (halves_in (get frames key)))
@@ -466,14 +417,12 @@ module _ (keys : List (Name × ℕ)) (frames : Slab Frame) (was : IsFramed keys 
           wrote keys frames was t n own key more slab found (halves_in (get frames key)) refl came f same updates sets
       wrote_by same None some updates sets = cc
 
-      left_by : ((m : Name) → lookup (same_name m) more ≡ cond (same_name n m) None (lookup (same_name m) keys))
-          → IsDistinct same_name (keys_of more) → (f : Option Frame) → is_some f ≡ false → Updates frames slab key f
-          → Sets (halves_in (get frames key)) (halves_in f) t.instr came
+      left_by : ((m : Name) → lookup (same_name m) more ≡ cond (same_name n m) None (lookup (same_name m) keys)) → IsDistinct same_name (keys_of more)
+          → (f : Option Frame) → is_some f ≡ false → Updates frames slab key f → Sets (halves_in (get frames key)) (halves_in f) t.instr came
           → Holds keys frames more slab t came
       left_by gone unique (Some f) none updates sets = cc
       left_by gone unique None none updates sets =
-          left keys frames was t n own key more slab found (halves_in (get frames key)) refl came gone unique updates
-          sets
+          left keys frames was t n own key more slab found (halves_in (get frames key)) refl came gone unique updates sets
 
       pub wrote_in : more ≡ keys → left_it ≡ false → IsOffered keys frames more slab t h short room r
       wrote_in same stays =
@@ -503,9 +452,7 @@ offered_at frames mid slab key i h short room r tells writes true gives stays =
     record {
       tells = tells;
       frame = None;
-      sets = subst
-          (λ l. Sets (halves_in (get frames key)) l i (after_came r h (lookup (nat_eq i) (halves_in (get frames key)))))
-          empty writes.sets;
+      sets = subst (λ l. Sets (halves_in (get frames key)) l i (after_came r h (lookup (nat_eq i) (halves_in (get frames key))))) empty writes.sets;
       updates = updates_twice frames mid slab key (Some writes.frame) None writes.updates given.1;
       stays = refl;
     }
@@ -518,13 +465,11 @@ pub sets_said : (a : Option Offered) (p q : List (ℕ × Half)) (i : ℕ) (h : H
 sets_said None p q i h sets same = subst (λ l. Sets p l i (lookup (nat_eq i) p)) (sym (same refl)) (sets_same p i)
 sets_said (Some a) p q i h sets same = sets
 
-pub here_said : (a : Option Offered) (h : Half) (was now : Option Half) → now ≡ after_said a h was
-    → IfSome a (λ _. now ≡ half_after was h.port h.value)
+pub here_said : (a : Option Offered) (h : Half) (was now : Option Half) → now ≡ after_said a h was → IfSome a (λ _. now ≡ half_after was h.port h.value)
 here_said None h was now e = tt
 here_said (Some a) h was now e = e
 
-pub same_said : (a : Option Offered) (h : Half) (was now : Option Half) → now ≡ after_said a h was → a ≡ None
-    → now ≡ was
+pub same_said : (a : Option Offered) (h : Half) (was now : Option Half) → now ≡ after_said a h was → a ≡ None → now ≡ was
 same_said None h was now e none = e
 same_said (Some a) h was now e none = cc
 

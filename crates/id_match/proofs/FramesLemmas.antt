@@ -1,6 +1,5 @@
 -- Lemmas on specs/Frames.antt, and on the number of frames.
-use Rattle.std.proofs.Common.{◌≡◌, ℕ, zero, suc, ◌+◌, ◌≤◌, Bool, true, false, not, cond, ◌&&◌, ◌||◌, nat_eq, List, []}
-use Rattle.std.proofs.Common.{◌∷◌}
+use Rattle.std.proofs.Common.{◌≡◌, ℕ, zero, suc, ◌+◌, ◌≤◌, Bool, true, false, not, cond, ◌&&◌, ◌||◌, nat_eq, List, [], ◌∷◌}
 use Rattle.std.proofs.Common.{map, Option, Some, None, is_some, refl, sym, ◌∙◌, ap, arith}
 use Rattle.std.specs.FinMap.{get, entries, from_entries, contains_key, contains_key-keys}
 use Rattle.std.specs.List.{AllByRecursion, IsDistinct, count_by, filter, list_any}
@@ -35,11 +34,9 @@ none_or : (o q : Option Half) → is_some o ≡ false → is_some (option_or o q
 none_or None q e = refl
 none_or (Some h) q e = cc
 
-module _ (f : List Pair) (es : List (Tag × Half)) (s : Store) (is : from_entries (all_entries f es) ≡ s)
-    (kept : IsKept f es) (t : Tag) where
+module _ (f : List Pair) (es : List (Tag × Half)) (s : Store) (is : from_entries (all_entries f es) ≡ s) (kept : IsKept f es) (t : Tag) where
   waits_in : contains_key s t ≡ is_some (option_or (front_half f t) (lookup (same_tag t) es))
-  waits_in =
-      ap (λ r. is_some (get r t)) (sym is) ∙ ap is_some (get_half (all_entries f es) t ∙ lookup_all f es kept.placed t)
+  waits_in = ap (λ r. is_some (get r t)) (sym is) ∙ ap is_some (get_half (all_entries f es) t ∙ lookup_all f es kept.placed t)
 
   -- what waits in the front waits
   pub in_front : is_some (front_half f t) ≡ true → contains_key s t ≡ true
@@ -82,12 +79,9 @@ one_test false false f g = refl
 -- tags of one frame differ in their instructions alone
 as_other : (t u : Tag) → same_frame t u ≡ true → record t { instr = u.instr } ≡ u
 as_other t u e =
-    let contexts : same_context t.context u.context ≡ true =
-    both_first (same_context t.context u.context) (nat_eq t.iteration u.iteration) e in
-    let element : nat_eq t.context.element u.context.element ≡ true =
-    both_first _ (nat_eq t.context.serial u.context.serial) contexts in
-    let serial : nat_eq t.context.serial u.context.serial ≡ true =
-    both_second (nat_eq t.context.element u.context.element) _ contexts in
+    let contexts : same_context t.context u.context ≡ true = both_first (same_context t.context u.context) (nat_eq t.iteration u.iteration) e in
+    let element : nat_eq t.context.element u.context.element ≡ true = both_first _ (nat_eq t.context.serial u.context.serial) contexts in
+    let serial : nat_eq t.context.serial u.context.serial ≡ true = both_second (nat_eq t.context.element u.context.element) _ contexts in
     let iteration : nat_eq t.iteration u.iteration ≡ true = both_second (same_context t.context u.context) _ e in
     λ i. record {
       context = record { element = numbers_one _ _ element i; serial = numbers_one _ _ serial i };
@@ -97,17 +91,14 @@ as_other t u e =
 
 frame_refl : (t : Tag) → same_frame t t ≡ true
 frame_refl t =
-    ap (λ b. (b && (nat_eq t.context.serial t.context.serial)) && nat_eq t.iteration t.iteration)
-    (nat_eq_equiv.refl t.context.element)
+    ap (λ b. (b && (nat_eq t.context.serial t.context.serial)) && nat_eq t.iteration t.iteration) (nat_eq_equiv.refl t.context.element)
     ∙ ap (λ b. b && nat_eq t.iteration t.iteration) (nat_eq_equiv.refl t.context.serial)
     ∙ nat_eq_equiv.refl t.iteration
 
 frame_symm : (t u : Tag) → same_frame t u ≡ same_frame u t
 frame_symm t u =
-    ap (λ b. (b && (nat_eq t.context.serial u.context.serial)) && nat_eq t.iteration u.iteration)
-    (nat_eq_equiv.symm t.context.element u.context.element)
-    ∙ ap (λ b. (nat_eq u.context.element t.context.element && b) && nat_eq t.iteration u.iteration)
-    (nat_eq_equiv.symm t.context.serial u.context.serial)
+    ap (λ b. (b && (nat_eq t.context.serial u.context.serial)) && nat_eq t.iteration u.iteration) (nat_eq_equiv.symm t.context.element u.context.element)
+    ∙ ap (λ b. (nat_eq u.context.element t.context.element && b) && nat_eq t.iteration u.iteration) (nat_eq_equiv.symm t.context.serial u.context.serial)
     ∙ ap (λ b. same_context u.context t.context && b) (nat_eq_equiv.symm t.iteration u.iteration)
 
 -- the test of frames is an equivalence
@@ -123,11 +114,9 @@ frame_laws = record {
 module _ (s : Store) where
   -- what waits stands at no smaller instruction than one below which nothing waits
   module _ (t : Tag) (i : ℕ) (has : contains_key s (record t { instr = i }) ≡ true) where
-    more_by : (n : ℕ) → n ≤ i → contains_key s (record t { instr = n }) ≡ false → (b : Bool) → nat_eq n i ≡ b
-        → suc n ≤ i
+    more_by : (n : ℕ) → n ≤ i → contains_key s (record t { instr = n }) ≡ false → (b : Bool) → nat_eq n i ≡ b → suc n ≤ i
     more_by n least none true e =
-        let bad : true ≡ false =
-        sym has ∙ ap (λ k. contains_key s (record t { instr = k })) (sym (numbers_one n i e)) ∙ none in cc
+        let bad : true ≡ false = sym has ∙ ap (λ k. contains_key s (record t { instr = k })) (sym (numbers_one n i e)) ∙ none in cc
     more_by n least none false e = let away = numbers_apart n i e in omega arith
 
     least_by : (n : ℕ) → waits_below s t n ≡ false → n ≤ i
@@ -140,8 +129,8 @@ module _ (s : Store) where
   least t u first same has =
       least_by t u.instr (ap (contains_key s) (as_other t u same) ∙ has) t.instr (true_from_not _ first)
 
-  one_first : (t u : Tag) → is_first s t ≡ true → is_first s u ≡ true → contains_key s t ≡ true
-      → contains_key s u ≡ true → same_frame t u ≡ true → t ≡ u
+  one_first : (t u : Tag) → is_first s t ≡ true → is_first s u ≡ true → contains_key s t ≡ true → contains_key s u ≡ true
+      → same_frame t u ≡ true → t ≡ u
   one_first t u first other here there same =
       let up : t.instr ≤ u.instr = least t u first same there in
       let down : u.instr ≤ t.instr = least u t other (frame_symm u t ∙ same) here in
@@ -163,13 +152,11 @@ module _ (s : Store) where
   abbrev FirstOf : Tag → Tag → Type 0
   FirstOf u t = (same_frame u t ≡ true) × (contains_key s t ≡ true) × (is_first s t ≡ true)
 
-  first_at : (u : Tag) (n : ℕ) → contains_key s (record u { instr = n }) ≡ true → waits_below s u n ≡ false
-      → (t : Tag) × FirstOf u t
+  first_at : (u : Tag) (n : ℕ) → contains_key s (record u { instr = n }) ≡ true → waits_below s u n ≡ false → (t : Tag) × FirstOf u t
   first_at u n has none = (record u { instr = n }, (frame_refl u, has, ap not (below_same u n n ∙ none)))
 
-  first_by : (u : Tag) (n : ℕ) (b : Bool) → waits_below s u n ≡ b
-      → (contains_key s (record u { instr = n }) || b) ≡ true → (waits_below s u n ≡ true → (t : Tag) × FirstOf u t)
-      → (t : Tag) × FirstOf u t
+  first_by : (u : Tag) (n : ℕ) (b : Bool) → waits_below s u n ≡ b → (contains_key s (record u { instr = n }) || b) ≡ true
+      → (waits_below s u n ≡ true → (t : Tag) × FirstOf u t) → (t : Tag) × FirstOf u t
   first_by u n true e some rest = rest e
   first_by u n false e some rest = first_at u n (or_false _ some) e
     where
@@ -188,8 +175,7 @@ module _ (s : Store) where
   -- ---- the firsts of a list
 
   apart_head : (t u : Tag) (us : List Tag) (b : Bool) → is_first s u ≡ b → (b ≡ true → same_frame t u ≡ false)
-      → AllByRecursion (λ w. same_frame t w ≡ false) us
-      → AllByRecursion (λ w. same_frame t w ≡ false) (cond b (u ∷ us) us)
+      → AllByRecursion (λ w. same_frame t w ≡ false) us → AllByRecursion (λ w. same_frame t w ≡ false) (cond b (u ∷ us) us)
   apart_head t u us true e apart rest = (apart refl, rest)
   apart_head t u us false e apart rest = rest
 
@@ -220,8 +206,7 @@ module _ (s : Store) where
 -- ---- members of a list
 
 -- a tag of the list passes where the list is asked for it
-finds : (p : Tag → Bool) (t : Tag) → p t ≡ true → (xs : List Tag) → list_any (same_tag t) xs ≡ true
-    → list_any p xs ≡ true
+finds : (p : Tag → Bool) (t : Tag) → p t ≡ true → (xs : List Tag) → list_any (same_tag t) xs ≡ true → list_any p xs ≡ true
 finds p t pass [] e = cc
 finds p t pass (x ∷ xs) e = by (same_tag t x) refl e (finds p t pass xs)
   where
@@ -274,8 +259,7 @@ module _ (s : Store) (ts us : List Tag) (ours : (t : Tag) → list_any (same_tag
       let h = found (same_frame q) us e in
       let first = first_from s h.0 (sym (theirs h.0) ∙ h.2) (waits_below s h.0 h.0.instr) refl in
       let same : same_frame q first.0 ≡ true = frame_laws.congr q h.0 first.0 h.1 ∙ first.1.0 in
-      finds (λ t. is_first s t && same_frame q t) first.0 (ap (λ b. b && same_frame q first.0) first.1.2 ∙ same) ts
-      (ours first.0 ∙ first.1.1)
+      finds (λ t. is_first s t && same_frame q t) first.0 (ap (λ b. b && same_frame q first.0) first.1.2 ∙ same) ts (ours first.0 ∙ first.1.1)
 
   -- as many values are the first of their frame as there are frames
   firsts_are_frames : IsDistinct same_tag ts → count_by (is_first s) ts ≡ distinct_count same_frame us
@@ -294,38 +278,30 @@ tags_of-entries (e ∷ es) = ap (λ l. e.0 ∷ l) (tags_of-entries es)
 any_by_order : (t : Tag) (xs : List Tag) → list_any (eq_by_cmp tag_cmp t) xs ≡ list_any (same_tag t) xs
 any_by_order t [] = refl
 any_by_order t (x ∷ xs) =
-    ap (λ b. b || list_any (eq_by_cmp tag_cmp t) xs) (ties-same_tag t x)
-    ∙ ap (λ b. same_tag t x || b) (any_by_order t xs)
+    ap (λ b. b || list_any (eq_by_cmp tag_cmp t) xs) (ties-same_tag t x) ∙ ap (λ b. same_tag t x || b) (any_by_order t xs)
 
 listed_waits : (s : Store) (t : Tag) → list_any (same_tag t) (map (λ e. e.tag) (entries_of s)) ≡ contains_key s t
 listed_waits s t =
-    ap (list_any (same_tag t)) (tags_of-entries (entries s)) ∙ sym (any_by_order t (keys_of (entries s)))
-    ∙ sym (contains_key-keys s t)
+    ap (list_any (same_tag t)) (tags_of-entries (entries s)) ∙ sym (any_by_order t (keys_of (entries s))) ∙ sym (contains_key-keys s t)
 
-made_waits : (es : List (Tag × Half)) (s : Store) → from_entries es ≡ s → (t : Tag)
-    → list_any (same_tag t) (keys_of es) ≡ contains_key s t
-made_waits es s is t =
-    sym (is_some-lookup (same_tag t) es) ∙ ap is_some (sym (get_half es t)) ∙ ap (λ r. is_some (get r t)) is
+made_waits : (es : List (Tag × Half)) (s : Store) → from_entries es ≡ s → (t : Tag) → list_any (same_tag t) (keys_of es) ≡ contains_key s t
+made_waits es s is t = sym (is_some-lookup (same_tag t) es) ∙ ap is_some (sym (get_half es t)) ∙ ap (λ r. is_some (get r t)) is
 
 -- the values of the front and behind that are the first of their frame are as many as the frames
-pub frames_of-firsts : (f : List Pair) (es : List (Tag × Half)) (s : Store) → from_entries (all_entries f es) ≡ s
-    → IsKept f es → IsDistinct same_tag (keys_of es)
+pub frames_of-firsts : (f : List Pair) (es : List (Tag × Half)) (s : Store) → from_entries (all_entries f es) ≡ s → IsKept f es
+    → IsDistinct same_tag (keys_of es)
     → count_by (is_first s) (keys_of (front_entries f)) + count_by (is_first s) (keys_of es) ≡ frames_of s
 frames_of-firsts f es s is kept distinct =
     sym (sum_by-append (λ t. cond (is_first s t) 1 0) (keys_of (front_entries f)) (keys_of es))
     ∙ ap (count_by (is_first s)) (sym (map-append (λ e. e.0) (front_entries f) es))
-    ∙ firsts_are_frames s (keys_of (all_entries f es)) (map (λ e. e.tag) (entries_of s))
-    (made_waits (all_entries f es) s is) (listed_waits s)
+    ∙ firsts_are_frames s (keys_of (all_entries f es)) (map (λ e. e.tag) (entries_of s)) (made_waits (all_entries f es) s is) (listed_waits s)
     (distinct_all f es kept distinct)
 
 -- the same where what is behind is a store of its own
-module _ (f : List Pair) (es : List (Tag × Half)) (r s : Store) (rear : from_entries es ≡ r)
-    (is : from_entries (all_entries f (entries r)) ≡ s)
+module _ (f : List Pair) (es : List (Tag × Half)) (r s : Store) (rear : from_entries es ≡ r) (is : from_entries (all_entries f (entries r)) ≡ s)
     (kept : IsKept f (entries r)) (distinct : IsDistinct same_tag (keys_of es)) where
   same : (t : Tag) → lookup (same_tag t) es ≡ lookup (same_tag t) (entries r)
   same t = sym (lookup-entries es r rear t)
 
-  pub frames_of-rear : count_by (is_first s) (keys_of (front_entries f)) + count_by (is_first s) (keys_of es)
-      ≡ frames_of s
-  frames_of-rear =
-      frames_of-firsts f es s (made_as f (entries r) es same kept s is) (kept_as f (entries r) es same kept) distinct
+  pub frames_of-rear : count_by (is_first s) (keys_of (front_entries f)) + count_by (is_first s) (keys_of es) ≡ frames_of s
+  frames_of-rear = frames_of-firsts f es s (made_as f (entries r) es same kept s is) (kept_as f (entries r) es same kept) distinct

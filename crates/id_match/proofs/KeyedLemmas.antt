@@ -1,6 +1,5 @@
 -- Lemmas on specs/Keyed.antt.
-use Rattle.std.proofs.Common.{◌≡◌, Bool, true, false, cond, ◌&&◌, Option, Some, None, Result, Ok, Err, OnOk, refl, sym}
-use Rattle.std.proofs.Common.{◌∙◌, ap}
+use Rattle.std.proofs.Common.{◌≡◌, Bool, true, false, cond, ◌&&◌, Option, Some, None, Result, Ok, Err, OnOk, refl, sym, ◌∙◌, ap}
 use Rattle.std.specs.FinMap.{get, empty, get-empty}
 use Rattle.std.specs.declared.alloc.AllocError.{AllocError}
 use Rattle.id_instr.specs.declared.dests.Port.{Port}
@@ -44,10 +43,8 @@ at_port-half_after (Some h) p v q = partner_leaves h.port h.value p v q
 
 here : (m : Keyed) (t : Tag) (p : Port) (v : Value) (a : Offered) (u : Tag) (q : Port) (o : Option Half)
     → same_tag t u ≡ true → m u q ≡ at_port o q → keyed_by_answer m t p v a u q ≡ ports_after o p v a q
-here m t p v Kept u q o e is =
-    ap (λ b. cond (b && same_port p q) (Some v) (m u q)) e ∙ ap (cond (same_port p q) (Some v)) is
-here m t p v (Pair _ _) u q o e is =
-    ap (λ b. cond (b && same_port (other_port p) q) None (m u q)) e ∙ ap (cond (same_port (other_port p) q) None) is
+here m t p v Kept u q o e is = ap (λ b. cond (b && same_port p q) (Some v) (m u q)) e ∙ ap (cond (same_port p q) (Some v)) is
+here m t p v (Pair _ _) u q o e is = ap (λ b. cond (b && same_port (other_port p) q) None (m u q)) e ∙ ap (cond (same_port (other_port p) q) None) is
 here m t p v Taken u q o e is = is
 
 elsewhere : (m : Keyed) (t : Tag) (p : Port) (v : Value) (a : Offered) (u : Tag) (q : Port)
@@ -57,8 +54,7 @@ elsewhere m t p v (Pair _ _) u q e = ap (λ b. cond (b && same_port (other_port 
 elsewhere m t p v Taken u q e = refl
 
 at_tag : (s : Store) (t : Tag) (p : Port) (v : Value) (u : Tag) (q : Port) (b : Bool) → same_tag t u ≡ b
-    → at_port (cond b (half_after (get s t) p v) (get s u)) q
-    ≡ keyed_by_answer (waits s) t p v (answer_at (get s t) p v) u q
+    → at_port (cond b (half_after (get s t) p v) (get s u)) q ≡ keyed_by_answer (waits s) t p v (answer_at (get s t) p v) u q
 at_tag s t p v u q true e =
     at_port-half_after (get s t) p v q
     ∙ sym (here (waits s) t p v (answer_at (get s t) p v) u q (get s t) e (ap (λ o. at_port o q) (still s t u true e)))
@@ -74,7 +70,6 @@ waits-offer_after s t p v u q =
 
 -- the same, where the store after a call is that after the offer
 pub keyed_from_after : (s r : Store) (t : Tag) (p : Port) (v : Value) (answer : Result Offered AllocError)
-    → OnOk answer (r ≡ offer_after s t p v)
-    → OnOk answer ((u : Tag) (q : Port) → waits r u q ≡ keyed_after (waits s) t p v u q)
+    → OnOk answer (r ≡ offer_after s t p v) → OnOk answer ((u : Tag) (q : Port) → waits r u q ≡ keyed_after (waits s) t p v u q)
 keyed_from_after s r t p v (Ok a) is = λ u q. ap (λ x. waits x u q) is ∙ waits-offer_after s t p v u q
 keyed_from_after s r t p v (Err e) is = tt

@@ -1,6 +1,5 @@
 -- Lemmas on what waits in the rear, by its entries.
-use Rattle.std.proofs.Common.{◌≡◌, Bool, true, false, cond, List, Option, Some, None, IsSome, Result, Ok, Err, IfOk}
-use Rattle.std.proofs.Common.{OnErr, refl, sym, ◌∙◌, ap}
+use Rattle.std.proofs.Common.{◌≡◌, Bool, true, false, cond, List, Option, Some, None, IsSome, Result, Ok, Err, IfOk, OnErr, refl, sym, ◌∙◌, ap}
 use Rattle.std.specs.FinMap.{entries, from_entries, get, same_map}
 use Rattle.std.specs.Map.{lookup}
 use Rattle.std.specs.Option.{option_or}
@@ -28,14 +27,12 @@ pub lookup-entries : (es : List (Tag × Half)) (s : Store) → from_entries {R =
 lookup-entries es s is t = sym (get-lookup s t) ∙ ap (λ r. get r t) (sym is) ∙ get_half es t
 
 -- the answer by what the entries have
-pub answer-lookup : (s : Store) (t : Tag) (p : Port) (v : Value)
-    → offer_answer s t p v ≡ answer_at (lookup (same_tag t) (entries s)) p v
+pub answer-lookup : (s : Store) (t : Tag) (p : Port) (v : Value) → offer_answer s t p v ≡ answer_at (lookup (same_tag t) (entries s)) p v
 answer-lookup s t p v = answer_of-at_port (get s t) p v ∙ ap (λ o. answer_at o p v) (get-lookup s t)
 
 -- a store is made of its entries
 pub made_back : (s : Store) → from_entries (entries s) ≡ s
-made_back s =
-    same_map tags_total exact_tags (from_entries (entries s)) s (λ t. get_half (entries s) t ∙ sym (get-lookup s t))
+made_back s = same_map tags_total exact_tags (from_entries (entries s)) s (λ t. get_half (entries s) t ∙ sym (get-lookup s t))
 
 module _ (s r : Store) (t : Tag) (p : Port) (v : Value) (is : r ≡ offer_after s t p v) where
   has : (u : Tag) → lookup (same_tag u) (entries r) ≡ cond (same_tag t u) (half_after (get s t) p v) (get s u)
@@ -44,8 +41,7 @@ module _ (s r : Store) (t : Tag) (p : Port) (v : Value) (is : r ≡ offer_after 
   -- what the rear has under the tag of an offer
   pub here_after : lookup (same_tag t) (entries r) ≡ half_after (lookup (same_tag t) (entries s)) p v
   here_after =
-      has t ∙ ap (λ b. cond b (half_after (get s t) p v) (get s t)) (same_tag_laws.refl t)
-      ∙ ap (λ o. half_after o p v) (get-lookup s t)
+      has t ∙ ap (λ b. cond b (half_after (get s t) p v) (get s t)) (same_tag_laws.refl t) ∙ ap (λ o. half_after o p v) (get-lookup s t)
 
   -- and under the others
   pub others_after : OthersSame t (entries s) (entries r)
@@ -64,8 +60,8 @@ err_always (Err b) q = q
 abbrev Leaves : Option Half → Port → Value → Type 0
 Leaves o p v = IsSome o × (half_after o p v ≡ None)
 
-leaves_by : (h : Half) (p : Port) (v : Value) (x y : Value) (b : Bool) → same_port h.port p ≡ b
-    → Pair x y ≡ cond b Taken (pair_of p v h.value) → Leaves (Some h) p v
+leaves_by : (h : Half) (p : Port) (v : Value) (x y : Value) (b : Bool) → same_port h.port p ≡ b → Pair x y ≡ cond b Taken (pair_of p v h.value)
+    → Leaves (Some h) p v
 leaves_by h p v x y true same e = cc
 leaves_by h p v x y false same e = (refl, ap (λ b. cond b (Some h) None) same)
 
@@ -79,13 +75,11 @@ partner_left_of o Zero v w e = partner_left o Zero v v w e
 partner_left_of o One v w e = partner_left o One v w v e
 
 -- where the value's port is taken, nothing changes
-pub taken_same : (s r : Store) (t : Tag) (p : Port) (v : Value) → r ≡ offer_after s t p v → Taken ≡ offer_answer s t p v
-    → r ≡ s
+pub taken_same : (s r : Store) (t : Tag) (p : Port) (v : Value) → r ≡ offer_after s t p v → Taken ≡ offer_answer s t p v → r ≡ s
 taken_same s r t p v is e = is ∙ ap (store_after s t p v) (sym e)
 
 -- entries that have the same under each tag make the same store behind a front
-module _ (f : List front.Pair) (es fs : List (Tag × Half)) (same : (t : Tag)
-    → lookup (same_tag t) fs ≡ lookup (same_tag t) es) (kept : IsKept f es) where
+module _ (f : List front.Pair) (es fs : List (Tag × Half)) (same : (t : Tag) → lookup (same_tag t) fs ≡ lookup (same_tag t) es) (kept : IsKept f es) where
   pub kept_as : IsKept f fs
   kept_as = record {
     placed = kept.placed;

@@ -32,16 +32,14 @@ turned : (t u : Tag) → eq_by_cmp tag_cmp u t ≡ same_tag t u
 turned t u = (eq_by_cmp_equiv tags_total).symm u t ∙ ties-same_tag t u
 
 answered : (q : Port) (w : Value) (p : Port) (v : Value)
-    → answer_of p v (cond (same_port q p) (Some w) None) (cond (same_port q (other_port p)) (Some w) None)
-    ≡ cond (same_port q p) Taken (pair_of p v w)
+    → answer_of p v (cond (same_port q p) (Some w) None) (cond (same_port q (other_port p)) (Some w) None) ≡ cond (same_port q p) Taken (pair_of p v w)
 answered Zero w Zero v = refl
 answered Zero w One v = refl
 answered One w Zero v = refl
 answered One w One v = refl
 
 -- the answer by what waits under the tag
-pub answer_of-at_port : (o : Option Half) (p : Port) (v : Value)
-    → answer_of p v (at_port o p) (at_port o (other_port p)) ≡ answer_at o p v
+pub answer_of-at_port : (o : Option Half) (p : Port) (v : Value) → answer_of p v (at_port o p) (at_port o (other_port p)) ≡ answer_at o p v
 answer_of-at_port None p v = refl
 answer_of-at_port (Some h) p v = answered h.port h.value p v
 
@@ -50,14 +48,12 @@ pub still : (s : Store) (t u : Tag) (b : Bool) → same_tag t u ≡ b → get s 
 still s t u true e = get_tied tags_total s t u (ties_from_same_tag t u e)
 still s t u false e = refl
 
-removed : (s : Store) (t : Tag) (p : Port) (v w : Value) (u : Tag)
-    → get (store_after s t p v (pair_of p v w)) u ≡ cond (same_tag t u) None (get s u)
+removed : (s : Store) (t : Tag) (p : Port) (v w : Value) (u : Tag) → get (store_after s t p v (pair_of p v w)) u ≡ cond (same_tag t u) None (get s u)
 removed s t Zero v w u = get-remove tags_total s t u ∙ ap (λ b. cond b None (get s u)) (turned t u)
 removed s t One v w u = get-remove tags_total s t u ∙ ap (λ b. cond b None (get s u)) (turned t u)
 
 met : (s : Store) (t : Tag) (p : Port) (v : Value) (h : Half) → get s t ≡ Some h → (u : Tag) (b : Bool)
-    → get (store_after s t p v (cond b Taken (pair_of p v h.value))) u
-    ≡ cond (same_tag t u) (cond b (Some h) None) (get s u)
+    → get (store_after s t p v (cond b Taken (pair_of p v h.value))) u ≡ cond (same_tag t u) (cond b (Some h) None) (get s u)
 met s t p v h e u true = still s t u (same_tag t u) refl ∙ ap (λ o. cond (same_tag t u) o (get s u)) e
 met s t p v h e u false = removed s t p v h.value u
 

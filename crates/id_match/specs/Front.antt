@@ -26,7 +26,7 @@ use Rattle.id_match.specs.Halves.{answer_at, half_after}
 abbrev pub slot_value : Slot → Option Value
 slot_value s = if s.state == 0 then None else Some (whole s.value)
 
--- the state of a slot that keeps a value of a context of this element at this port
+-- the state of a slot that keeps a value of a context of this element at this port, and the port of a slot
 abbrev pub state_of : ℕ → Port → ℕ
 state_of element port.Zero = element * 4 + 2
 state_of element port.One = element * 4 + 3

@@ -1,6 +1,5 @@
 -- What is known of logs (specs/Merging.antt, specs/Heads.antt).
-use Rattle.std.proofs.Common.{◌≡◌, ◌∙◌, ℕ, suc, zero, Bool, true, false, List, [], ◌∷◌, map, set, length, Option, Some}
-use Rattle.std.proofs.Common.{None, option_map, refl, sym, ap, subst, inl, inr, arith, ◌+◌, ◌<◌, ◌≤◌, ◌==◌, min}
+use Rattle.std.proofs.Common.{◌≡◌, ◌∙◌, ℕ, suc, zero, Bool, true, false, List, [], ◌∷◌, map, set, length, Option, Some, None, option_map, refl, sym, ap, subst, inl, inr, arith, ◌+◌, ◌<◌, ◌≤◌, ◌==◌, min}
 use Rattle.std.specs.Prelude.{IsSomeAnd, slice_get, get_or, drop, unwrap_or}
 use Rattle.std.specs.List.{All}
 use Rattle.std.proofs.lemmas.Bool.{cases_eq}
@@ -28,8 +27,7 @@ all_known-map [] = refl
 all_known-map (x ∷ xs) = ap (option_map (λ ys. x ∷ ys)) (all_known-map xs)
 
 -- and where all are, each is
-pub all_known-each : {X : Type 0} (os : List (Option X)) (xs : List X) → all_known os ≡ Some xs
-    → os ≡ map (λ x. Some x) xs
+pub all_known-each : {X : Type 0} (os : List (Option X)) (xs : List X) → all_known os ≡ Some xs → os ≡ map (λ x. Some x) xs
 all_known-each [] xs e = ap (map (λ x. Some x)) (some_is e)
 all_known-each (None ∷ os) xs e = absurd (none_some e)
 all_known-each {X = X} (Some x ∷ os) xs e = by (λ ys is. all_known-each os ys is) (all_known os) refl e
@@ -43,12 +41,11 @@ all_known-each {X = X} (Some x ∷ os) xs e = by (λ ys is. all_known-each os ys
 pub all_known-set : {X : Type 0} (os : List (Option X)) (xs : List X) (i : ℕ) (x : X) → all_known os ≡ Some xs
     → all_known (set os i (Some x)) ≡ Some (set xs i x)
 all_known-set os xs i x e =
-    ap (λ t. all_known (set t i (Some x))) (all_known-each os xs e) ∙ ap all_known (sym (map-set (λ y. Some y) xs i x))
-    ∙ all_known-map (set xs i x)
+    ap (λ t. all_known (set t i (Some x))) (all_known-each os xs e) ∙ ap all_known (sym (map-set (λ y. Some y) xs i x)) ∙ all_known-map (set xs i x)
 
 -- what is known at a place
-pub known_at : {X : Type 0} (os : List (Option X)) (xs : List X) (i : ℕ) (o : Option X) → os ≡ map (λ x. Some x) xs
-    → slice_get os i ≡ Some o → (x : X) × (o ≡ Some x) × (slice_get xs i ≡ Some x)
+pub known_at : {X : Type 0} (os : List (Option X)) (xs : List X) (i : ℕ) (o : Option X) → os ≡ map (λ x. Some x) xs → slice_get os i ≡ Some o
+    → (x : X) × (o ≡ Some x) × (slice_get xs i ≡ Some x)
 known_at [] xs i o e at = absurd (none_some at)
 known_at (p ∷ os) [] i o e at = absurd cc
 known_at (p ∷ os) (x ∷ xs) zero o e at = (x, sym (some_is at) ∙ ap (λ l. get_or l 0 None) e, refl)
@@ -70,8 +67,7 @@ still_all {X = X} os i o p at still = by (all_known os) refl
     by (Some xs) is =
         let one = known_at os xs i o (all_known-each os xs is) at in
         let same : p ≡ Some one.0 = subst (λ q. IsStill q p) one.1 still in
-        ap (λ q. all_known (set os i q)) same ∙ all_known-set os xs i one.0 is
-        ∙ ap (λ t. Some t) (set_same xs i one.0 one.2)
+        ap (λ q. all_known (set os i q)) same ∙ all_known-set os xs i one.0 is ∙ ap (λ t. Some t) (set_same xs i one.0 one.2)
 
 pub still_same : {X : Type 0} (o : Option X) → IsStill o o
 still_same None = tt
@@ -88,8 +84,7 @@ pub still_merged : (at : Option ℕ) (os ps : List (Option Ahead)) → IsStill (
     → IsStill (merged_ahead at os) (merged_ahead at ps)
 still_merged at os ps still = by (all_known os) (all_known ps) still
   where
-    by : (k l : Option (List Ahead)) → IsStill k l
-        → IsStill (option_map (merged_logs at) k) (option_map (merged_logs at) l)
+    by : (k l : Option (List Ahead)) → IsStill k l → IsStill (option_map (merged_logs at) k) (option_map (merged_logs at) l)
     by None l still = tt
     by (Some ls) l still = ap (option_map (merged_logs at)) still
 
@@ -103,11 +98,9 @@ IsLost-still None b fault still lost = tt
 IsLost-still (Some a) b fault still lost = subst (λ r. IsLost r fault) still lost
 
 -- merged bytes end alike where that at a place ends alike
-pub merged_end-set : (ls : List Ahead) (i : ℕ) (a b : Ahead) → slice_get ls i ≡ Some a → b.end ≡ a.end
-    → merged_end (set ls i b) ≡ merged_end ls
+pub merged_end-set : (ls : List Ahead) (i : ℕ) (a b : Ahead) → slice_get ls i ≡ Some a → b.end ≡ a.end → merged_end (set ls i b) ≡ merged_end ls
 merged_end-set [] i a b at same = refl
-merged_end-set (c ∷ ls) zero a b at same =
-    ap (λ e. end_with e (merged_end ls)) (same ∙ ap (λ (x : Ahead). x.end) (sym (some_is at)))
+merged_end-set (c ∷ ls) zero a b at same = ap (λ e. end_with e (merged_end ls)) (same ∙ ap (λ (x : Ahead). x.end) (sym (some_is at)))
 merged_end-set (c ∷ ls) (suc i) a b at same = ap (end_with c.end) (merged_end-set ls i a b at same)
 
 -- where a log may fail, the merged ones may
@@ -116,17 +109,14 @@ end_with_may ends = refl
 end_with_may (fails fault) = refl
 end_with_may may_fail = refl
 
-merged_end-may : (ls : List Ahead) (i : ℕ) (a : Ahead) → slice_get ls i ≡ Some a
-    → ((rest : End) → end_with a.end rest ≡ may_fail) → merged_end ls ≡ may_fail
+merged_end-may : (ls : List Ahead) (i : ℕ) (a : Ahead) → slice_get ls i ≡ Some a → ((rest : End) → end_with a.end rest ≡ may_fail) → merged_end ls ≡ may_fail
 merged_end-may [] i a at may = absurd (none_some at)
-merged_end-may (c ∷ ls) zero a at may =
-    subst (λ (x : Ahead). end_with x.end (merged_end ls) ≡ may_fail) (sym (some_is at)) (may (merged_end ls))
+merged_end-may (c ∷ ls) zero a at may = subst (λ (x : Ahead). end_with x.end (merged_end ls) ≡ may_fail) (sym (some_is at)) (may (merged_end ls))
 merged_end-may (c ∷ ls) (suc i) a at may = ap (end_with c.end) (merged_end-may ls i a at may) ∙ end_with_may c.end
 
 -- a read of a log that fails is one of the merged logs
-pub IsLost-merged : (at : Option ℕ) (os : List (Option Ahead)) (i : ℕ) (o : Option Ahead) (bytes : List ℕ) (over : Bool)
-    (fault : LogFault) → slice_get os i ≡ Some (told_behind o bytes over) → IsLost o fault
-    → IsLost (merged_ahead at os) fault
+pub IsLost-merged : (at : Option ℕ) (os : List (Option Ahead)) (i : ℕ) (o : Option Ahead) (bytes : List ℕ) (over : Bool) (fault : LogFault)
+    → slice_get os i ≡ Some (told_behind o bytes over) → IsLost o fault → IsLost (merged_ahead at os) fault
 IsLost-merged at os i o bytes over fault here lost = by (all_known os) refl
   where
     may : (e : End) (ls : List ℕ) → IsLostAt ls e fault → (rest : End) → end_with e rest ≡ may_fail
@@ -134,8 +124,8 @@ IsLost-merged at os i o bytes over fault here lost = by (all_known os) refl
     may (fails told) ls l rest = refl
     may may_fail ls l rest = refl
 
-    lost_at : (ls : List Ahead) (p : Option Ahead) (a : Ahead) → told_behind p bytes over ≡ Some a
-        → slice_get ls i ≡ Some a → IsLost p fault → IsLost (Some (merged_logs at ls)) fault
+    lost_at : (ls : List Ahead) (p : Option Ahead) (a : Ahead) → told_behind p bytes over ≡ Some a → slice_get ls i ≡ Some a → IsLost p fault
+        → IsLost (Some (merged_logs at ls)) fault
     lost_at ls None a is at_i l = absurd (none_some is)
     lost_at ls (Some b) a is at_i (inl memory) = inl memory
     lost_at ls (Some b) a is at_i (inr l) =
@@ -150,8 +140,8 @@ IsLost-merged at os i o bytes over fault here lost = by (all_known os) refl
         lost_at ls o one.0 one.1 one.2 lost
 
 -- logs of which one may break off so may
-pub MayBreak-merged : (at : Option ℕ) (os : List (Option Ahead)) (i : ℕ) (o : Option Ahead) (fault : LogFault)
-    → slice_get os i ≡ Some o → MayBreak o fault → MayBreak (merged_ahead at os) fault
+pub MayBreak-merged : (at : Option ℕ) (os : List (Option Ahead)) (i : ℕ) (o : Option Ahead) (fault : LogFault) → slice_get os i ≡ Some o → MayBreak o fault
+    → MayBreak (merged_ahead at os) fault
 MayBreak-merged at os i o fault here breaks = by (all_known os) refl
   where
     may : (e : End) → MayEndIn e fault → (rest : End) → end_with e rest ≡ may_fail
@@ -159,8 +149,7 @@ MayBreak-merged at os i o fault here breaks = by (all_known os) refl
     may (fails told) l rest = refl
     may may_fail l rest = refl
 
-    at_one : (ls : List Ahead) (a : Ahead) → slice_get ls i ≡ Some a → MayBreak (Some a) fault
-        → MayBreak (Some (merged_logs at ls)) fault
+    at_one : (ls : List Ahead) (a : Ahead) → slice_get ls i ≡ Some a → MayBreak (Some a) fault → MayBreak (Some (merged_logs at ls)) fault
     at_one ls a at_i (inl memory) = inl memory
     at_one ls a at_i (inr l) = inr (subst (λ e. MayEndIn e fault) (sym (merged_end-may ls i a at_i (may a.end l))) tt)
 
@@ -191,8 +180,7 @@ all_at P [] each = All-nil P
 all_at P (x ∷ xs) each = All-cons P x xs (each 0 x refl) (all_at P xs (λ j y at. each (suc j) y at))
 
 -- what is so at the first places is so at one more
-pub one_more : {X : Type 0} (P : X → Type 0) (xs : List X) (i : ℕ) (x : X)
-    → ((j : ℕ) (y : X) → j < i → slice_get xs j ≡ Some y → P y)
+pub one_more : {X : Type 0} (P : X → Type 0) (xs : List X) (i : ℕ) (x : X) → ((j : ℕ) (y : X) → j < i → slice_get xs j ≡ Some y → P y)
     → slice_get xs i ≡ Some x → P x → (j : ℕ) (y : X) → j < i + 1 → slice_get xs j ≡ Some y → P y
 one_more P xs i x first at is j y below here = elim (cases_eq j i) [
   | inl same ↦ subst P (some_is (sym at ∙ ap (slice_get xs) (sym same) ∙ here)) is
@@ -219,8 +207,7 @@ some_within {X = X} xs i P some = by (slice_get xs i) refl some
     by None at h = absurd h
     by (Some x) at h = slice_get_within xs i x at
 
-pub some_has : {X : Type 0} (xs : List X) (i : ℕ) (x : X) (P : X → Type 0) → slice_get xs i ≡ Some x
-    → IsSomeAnd (slice_get xs i) P → P x
+pub some_has : {X : Type 0} (xs : List X) (i : ℕ) (x : X) (P : X → Type 0) → slice_get xs i ≡ Some x → IsSomeAnd (slice_get xs i) P → P x
 some_has xs i x P at some = subst (λ o. IsSomeAnd o P) at some
 
 pub some_room : (n : ℕ) (b : Bool) → b ≡ (n == 0) → b ≡ false → 0 < n

@@ -17,8 +17,7 @@ use Rattle.id_instr.specs.declared.instr.PortKind.TheVariants as kind
 use Rattle.id_instr.specs.declared.instr.Dyadic.{Dyadic}
 use Rattle.id_instr.specs.declared.instr.Dyadic.TheVariants as class
 use Rattle.id_instr.specs.declared.instr.Op.{Op}
-use Rattle.id_instr.specs.declared.instr.Op.TheVariants.{Const, Unary, Binary, Merge, Switch, Back, Enter, Send, Next}
-use Rattle.id_instr.specs.declared.instr.Op.TheVariants.{Reset, Alloc, Address, Fetch, Store}
+use Rattle.id_instr.specs.declared.instr.Op.TheVariants.{Const, Unary, Binary, Merge, Switch, Back, Enter, Send, Next, Reset, Alloc, Address, Fetch, Store}
 use Rattle.id_instr.specs.Held.{address_kind, held_kind, structure_kind}
 use Rattle.id_instr.specs.Ports.{sends}
 use Rattle.id_tag.specs.Kinds.{kind_of, same_kind}
@@ -27,8 +26,7 @@ use Rattle.id_tag.specs.declared.Context.{Context}
 use Rattle.id_tag.specs.declared.Structure.{Structure}
 use Rattle.id_tag.specs.declared.Tag.{Tag}
 use Rattle.id_tag.specs.declared.Value.{Value}
-use Rattle.id_tag.specs.declared.Value.TheVariants.{Signal, Int, Bool as Truth, Structure as Made, Address as At}
-use Rattle.id_tag.specs.declared.Value.TheVariants.{Context as Opened, Continuation}
+use Rattle.id_tag.specs.declared.Value.TheVariants.{Signal, Int, Bool as Truth, Structure as Made, Address as At, Context as Opened, Continuation}
 use Rattle.id_ops.specs.declared.Fresh.{Fresh}
 use Rattle.id_ops.specs.declared.Operands.{Operands}
 use Rattle.id_ops.specs.declared.Operands.TheVariants.{One, Two}
@@ -73,8 +71,7 @@ Tested v k f = cond (same_kind (kind_of v) k) f Nothing
 passes : (v : Value) (k : PortKind) (f : Fired) → Some k ≡ Some (kind_of v) → f ≢ Nothing → Tested v k f ≢ Nothing
 passes v k f e does =
     let is : kind_of v ≡ k = cc in
-    let passed : same_kind (kind_of v) k ≡ true =
-    subst (λ j. same_kind (kind_of v) j ≡ true) is (same_kind-itself (kind_of v)) in
+    let passed : same_kind (kind_of v) k ≡ true = subst (λ j. same_kind (kind_of v) j ≡ true) is (same_kind-itself (kind_of v)) in
     subst (λ b. cond b f Nothing ≢ Nothing) (sym passed) does
 
 passed_kind : (v : Value) (k : PortKind) → same_kind (kind_of v) k ≡ true → Some k ≡ Some (kind_of v)
@@ -87,8 +84,7 @@ passed v k f = at (same_kind (kind_of v) k) refl
     at true e h = passed_kind v k e
     at false e h = absurd (h refl)
 
-of_kind : (op : Op) (v : Value) (k : PortKind) (f : Fired) → (Some k ≡ Some (kind_of v) → IsOfKind op f)
-    → IsOfKind op (Tested v k f)
+of_kind : (op : Op) (v : Value) (k : PortKind) (f : Fired) → (Some k ≡ Some (kind_of v) → IsOfKind op f) → IsOfKind op (Tested v k f)
 of_kind op v k f h = at (same_kind (kind_of v) k) refl
   where
     at : (b : Bool) → same_kind (kind_of v) k ≡ b → IsOfKind op (cond b f Nothing)
@@ -256,8 +252,7 @@ fires_unary a (Two v w) h e = let k = h.1 in cc
 
 -- operands of the kind of an operator on two values are numbers or truth values
 fires_binary : (f : Dyadic) (o : Operands) → Suits (Binary f) o → fired_binary f o ≢ Nothing
-fires_binary (class.Arithmetic o) (Two (Int a) (Int b)) h e =
-    fires_number (calculated o a b) (calculated-number o a b) e
+fires_binary (class.Arithmetic o) (Two (Int a) (Int b)) h e = fires_number (calculated o a b) (calculated-number o a b) e
 fires_binary (class.Comparison o) (Two (Int a) (Int b)) h e = cc
 fires_binary (class.Truth o) (Two (Truth a) (Truth b)) h e = cc
 fires_binary f (One v) h e = let k = h.1 in cc
@@ -321,14 +316,11 @@ fires_structure : (nested : Bool) (fresh : Fresh) (lo hi : ℤ) → structure_in
 fires_structure nested fresh lo hi = at (are_good lo hi)
   where
     at : (b : Bool)
-        → cond b (Out
-        (Made (record { element = fresh.element; serial = fresh.structure; low = lo; high = hi; nested = nested })))
-        (Failed BadBounds) ≢ Nothing
+        → cond b (Out (Made (record { element = fresh.element; serial = fresh.structure; low = lo; high = hi; nested = nested }))) (Failed BadBounds) ≢ Nothing
     at true e = cc
     at false e = cc
 
-fires_alloc : (nested : Bool) (fresh : Fresh) (o : Operands) → Suits (Alloc nested) o
-    → fired_alloc nested fresh o ≢ Nothing
+fires_alloc : (nested : Bool) (fresh : Fresh) (o : Operands) → Suits (Alloc nested) o → fired_alloc nested fresh o ≢ Nothing
 fires_alloc nested fresh (Two (Int lo) (Int hi)) h e = fires_structure nested fresh lo hi e
 fires_alloc nested fresh (One v) h e = let z = h.1 in cc
 fires_alloc nested fresh (Two v w) h e = let y = number_by_kind v h.0 in let z = number_by_kind w h.1 in cc
@@ -341,31 +333,25 @@ fires_index s i = at (is_inside s.low s.high i)
     at false e = cc
 
 fires_address : (nested : Bool) (o : Operands) → Suits (Address nested) o → fired_address nested o ≢ Nothing
-fires_address nested (Two (Made s) (Int i)) h e =
-    does (beq s.nested nested) (address_in s i) (same_by_structure nested s.nested h.0) (fires_index s i) e
+fires_address nested (Two (Made s) (Int i)) h e = does (beq s.nested nested) (address_in s i) (same_by_structure nested s.nested h.0) (fires_index s i) e
 fires_address nested (One v) h e = let z = h.1 in cc
 fires_address nested (Two v w) h e = let y = made_by_kind nested v h.0 in let z = number_by_kind w h.1 in cc
 
-fires_fetch : (nested : Bool) (r : ℕ) (t : Tag) (o : Operands) → Suits (Fetch nested r) o
-    → fired_fetch nested r t o ≢ Nothing
+fires_fetch : (nested : Bool) (r : ℕ) (t : Tag) (o : Operands) → Suits (Fetch nested r) o → fired_fetch nested r t o ≢ Nothing
 fires_fetch nested r t (One (At c)) h e =
-    does (beq c.structure.nested nested) (Asked c (record { context = t.context; iteration = t.iteration; instr = r }))
-    (same_by_address nested c.structure.nested h.0) (λ x. cc) e
+    does (beq c.structure.nested nested) (Asked c (record { context = t.context; iteration = t.iteration; instr = r })) (same_by_address nested c.structure.nested h.0) (λ x. cc) e
 fires_fetch nested r t (One v) h e = let z = at_by_kind nested v h.0 in cc
 fires_fetch nested r t (Two v w) h e = let z = h.1 in cc
 
 -- a value of the kind of what a cell holds passes the test
-held : (nested : Bool) (v : Value) → Some (held_kind nested) ≡ Some (kind_of v)
-    → same_kind (kind_of v) (held_kind nested) ≡ true
+held : (nested : Bool) (v : Value) → Some (held_kind nested) ≡ Some (kind_of v) → same_kind (kind_of v) (held_kind nested) ≡ true
 held nested v e =
-    let is : kind_of v ≡ held_kind nested =
-    cc in subst (λ j. same_kind (kind_of v) j ≡ true) is (same_kind-itself (kind_of v))
+    let is : kind_of v ≡ held_kind nested = cc in subst (λ j. same_kind (kind_of v) j ≡ true) is (same_kind-itself (kind_of v))
 
 fires_store : (nested : Bool) (t : Tag) (o : Operands) → Suits (Store nested) o → fired_store nested t o ≢ Nothing
 fires_store nested t (Two (At c) v) h e =
     does (may_hold nested c v) (Stored c v t)
-    (both (beq c.structure.nested nested) _ (same_by_address nested c.structure.nested h.0) (held nested v h.1))
-    (λ x. cc) e
+    (both (beq c.structure.nested nested) _ (same_by_address nested c.structure.nested h.0) (held nested v h.1)) (λ x. cc) e
 fires_store nested t (One v) h e = let z = h.1 in cc
 fires_store nested t (Two v w) h e = let y = at_by_kind nested v h.0 in cc
 
@@ -430,37 +416,27 @@ suits_reset : (k : PortKind) (o : Operands) → fired_reset k o ≢ Nothing → 
 suits_reset k (One v) h = (passed v k (Moved 0 v) h, refl)
 suits_reset k (Two v w) h = absurd (h refl)
 
-suits_alloc : (nested : Bool) (fresh : Fresh) (o : Operands) → fired_alloc nested fresh o ≢ Nothing
-    → Suits (Alloc nested) o
+suits_alloc : (nested : Bool) (fresh : Fresh) (o : Operands) → fired_alloc nested fresh o ≢ Nothing → Suits (Alloc nested) o
 suits_alloc nested fresh (Two (Int lo) (Int hi)) h = (refl, refl)
 suits_alloc nested fresh _ h = absurd (h refl)
 
 suits_address : (nested : Bool) (o : Operands) → fired_address nested o ≢ Nothing → Suits (Address nested) o
-suits_address nested (Two (Made s) (Int i)) h = (
-  ap (λ b. Some (structure_kind b)) (one_from_beq s.nested nested (holds (beq s.nested nested) (address_in s i) h)),
-  refl,
-)
+suits_address nested (Two (Made s) (Int i)) h =
+    (ap (λ b. Some (structure_kind b)) (one_from_beq s.nested nested (holds (beq s.nested nested) (address_in s i) h)), refl)
 suits_address nested _ h = absurd (h refl)
 
-suits_fetch : (nested : Bool) (r : ℕ) (t : Tag) (o : Operands) → fired_fetch nested r t o ≢ Nothing
-    → Suits (Fetch nested r) o
+suits_fetch : (nested : Bool) (r : ℕ) (t : Tag) (o : Operands) → fired_fetch nested r t o ≢ Nothing → Suits (Fetch nested r) o
 suits_fetch nested r t (One (At c)) h =
-    let b = c.structure.nested in (
-      ap (λ x. Some (address_kind x))
-          (one_from_beq b nested
-          (holds (beq b nested) (Asked c (record { context = t.context; iteration = t.iteration; instr = r })) h)),
-      refl,
-    )
+    let b = c.structure.nested in
+    (ap (λ x. Some (address_kind x)) (one_from_beq b nested (holds (beq b nested) (Asked c (record { context = t.context; iteration = t.iteration; instr = r })) h)), refl)
 suits_fetch nested r t _ h = absurd (h refl)
 
 suits_store : (nested : Bool) (t : Tag) (o : Operands) → fired_store nested t o ≢ Nothing → Suits (Store nested) o
 suits_store nested t (Two (At c) v) h =
     let b = c.structure.nested in
     let k = same_kind (kind_of v) (held_kind nested) in
-    let e = holds (may_hold nested c v) (Stored c v t) h in (
-      ap (λ x. Some (address_kind x)) (one_from_beq b nested (left (beq b nested) k e)),
-      passed_kind v (held_kind nested) (right (beq b nested) k e),
-    )
+    let e = holds (may_hold nested c v) (Stored c v t) h in
+    (ap (λ x. Some (address_kind x)) (one_from_beq b nested (left (beq b nested) k e)), passed_kind v (held_kind nested) (right (beq b nested) k e))
 suits_store nested t _ h = absurd (h refl)
 
 pub Suits-from_fires : (op : Op) (t : Tag) (o : Operands) (fresh : Fresh) → fired op t o fresh ≢ Nothing → Suits op o
@@ -498,8 +474,7 @@ kind_unary Not (One (Truth b)) = refl
 kind_unary a _ = tt
 
 kind_binary : (f : Dyadic) (o : Operands) → IsOfKind (Binary f) (fired_binary f o)
-kind_binary (class.Arithmetic o) (Two (Int a) (Int b)) =
-    kind_number (Binary (class.Arithmetic o)) (calculated o a b) refl (calculated-number o a b)
+kind_binary (class.Arithmetic o) (Two (Int a) (Int b)) = kind_number (Binary (class.Arithmetic o)) (calculated o a b) refl (calculated-number o a b)
 kind_binary (class.Comparison o) (Two (Int a) (Int b)) = refl
 kind_binary (class.Truth o) (Two (Truth a) (Truth b)) = refl
 kind_binary f _ = tt
@@ -536,10 +511,7 @@ kind_structure : (nested : Bool) (fresh : Fresh) (lo hi : ℤ) → IsOfKind (All
 kind_structure nested fresh lo hi = at (are_good lo hi)
   where
     at : (b : Bool)
-        → IsOfKind (Alloc nested)
-        (cond b (Out
-        (Made (record { element = fresh.element; serial = fresh.structure; low = lo; high = hi; nested = nested })))
-        (Failed BadBounds))
+        → IsOfKind (Alloc nested) (cond b (Out (Made (record { element = fresh.element; serial = fresh.structure; low = lo; high = hi; nested = nested }))) (Failed BadBounds))
     at true = refl
     at false = tt
 
@@ -550,39 +522,31 @@ kind_alloc nested fresh _ = tt
 kind_index : (nested : Bool) (s : Structure) (i : ℤ) → nested ≡ s.nested → IsOfKind (Address nested) (address_in s i)
 kind_index nested s i e = at (is_inside s.low s.high i)
   where
-    at : (b : Bool)
-        → IsOfKind (Address nested) (cond b (Out (At (record { structure = s; index = i }))) (Failed OutOfBounds))
+    at : (b : Bool) → IsOfKind (Address nested) (cond b (Out (At (record { structure = s; index = i }))) (Failed OutOfBounds))
     at true = ap (λ x. Some (address_kind x)) e
     at false = tt
 
 kind_address : (nested : Bool) (o : Operands) → IsOfKind (Address nested) (fired_address nested o)
 kind_address nested (Two (Made s) (Int i)) =
-    kind_where (Address nested) (beq s.nested nested) (address_in s i)
-    (λ e. kind_index nested s i (one_from_beq s.nested nested e))
+    kind_where (Address nested) (beq s.nested nested) (address_in s i) (λ e. kind_index nested s i (one_from_beq s.nested nested e))
 kind_address nested _ = tt
 
 kind_fetch : (nested : Bool) (r : ℕ) (t : Tag) (o : Operands) → IsOfKind (Fetch nested r) (fired_fetch nested r t o)
 kind_fetch nested r t (One (At c)) =
-    kind_where (Fetch nested r) (beq c.structure.nested nested)
-    (Asked c (record { context = t.context; iteration = t.iteration; instr = r }))
+    kind_where (Fetch nested r) (beq c.structure.nested nested) (Asked c (record { context = t.context; iteration = t.iteration; instr = r }))
     (λ e. ap (λ x. Fetch x r) (one_from_beq c.structure.nested nested e))
 kind_fetch nested r t _ = tt
 
 -- what is stored is of the kind that the cell holds
-kind_stored : (nested : Bool) (t : Tag) (c : Cell) (v : Value) → may_hold nested c v ≡ true
-    → IsOfKind (Store nested) (Stored c v t)
+kind_stored : (nested : Bool) (t : Tag) (c : Cell) (v : Value) → may_hold nested c v ≡ true → IsOfKind (Store nested) (Stored c v t)
 kind_stored nested t c v e =
     let b = c.structure.nested in
     let k = same_kind (kind_of v) (held_kind nested) in
-    let is = one_from_beq b nested (left (beq b nested) k e) in (
-      ap (λ x. Store x) is,
-      one_from_same_kind (kind_of v) (held_kind nested) (right (beq b nested) k e)
-          ∙ ap held_kind is,
-    )
+    let is = one_from_beq b nested (left (beq b nested) k e) in
+    (ap (λ x. Store x) is, one_from_same_kind (kind_of v) (held_kind nested) (right (beq b nested) k e) ∙ ap held_kind is)
 
 kind_store : (nested : Bool) (t : Tag) (o : Operands) → IsOfKind (Store nested) (fired_store nested t o)
-kind_store nested t (Two (At c) v) =
-    kind_where (Store nested) (may_hold nested c v) (Stored c v t) (kind_stored nested t c v)
+kind_store nested t (Two (At c) v) = kind_where (Store nested) (may_hold nested c v) (Stored c v t) (kind_stored nested t c v)
 kind_store nested t _ = tt
 
 pub IsOfKind-fired : (op : Op) (t : Tag) (o : Operands) (fresh : Fresh) → IsOfKind op (fired op t o fresh)

@@ -7,8 +7,7 @@ use Rattle.id_tag.specs.declared.plain.Plain.TheVariants as plain
 use Rattle.id_tag.specs.declared.plain.PlainToken.{PlainToken}
 use Rattle.id_tag.specs.Plains.{message_of, tag_in, whole}
 use Rattle.id_ops.specs.declared.plain_fired.PlainFired.{PlainFired}
-use Rattle.id_ops.specs.declared.plain_fired.PlainFired.TheVariants.{Nothing, Out, Side, Moved, Sent, Addressed, Asked}
-use Rattle.id_ops.specs.declared.plain_fired.PlainFired.TheVariants.{Stored}
+use Rattle.id_ops.specs.declared.plain_fired.PlainFired.TheVariants.{Nothing, Out, Side, Moved, Sent, Addressed, Asked, Stored}
 use Rattle.id_ops.specs.PlainFired.{MakesNone, fired_of}
 use Rattle.id_record.specs.declared.plain_firing.PlainFiring.{PlainFiring}
 use Rattle.id_record.specs.declared.cell_event.CellAnswer.{CellAnswer}
@@ -62,16 +61,13 @@ made-none m v (Stored c w) none = refl
 -- a firing that makes no structure tells nothing but at instruction 0
 pub plain-silent : (p : PlainFiring) → MakesNone p.fired p.token.now.value → (p.token.now.instr == 0) ≡ false
     → told_in (plain_firing p).message.payload (plain_firing p).reaction.fired ≡ []
-plain-silent p none other =
-    rw (came-elsewhere p.token.now other, made-none p.token.now p.token.now.value p.fired none) refl
+plain-silent p none other = rw (came-elsewhere p.token.now other, made-none p.token.now p.token.now.value p.fired none) refl
 
 -- a read or a write of a cell tells nothing
 pub cell_event-silent : (v : CellEvent) → told_in (cell_event v).message.payload (cell_event v).reaction.fired ≡ []
 cell_event-silent v = from v.answer
   where
-    from : (f : CellAnswer)
-        → told_in (cell_content f v.cell (tag_in v.token.now)).payload
-        (cell_content f v.cell (tag_in v.token.now)).fired ≡ []
+    from : (f : CellAnswer) → told_in (cell_content f v.cell (tag_in v.token.now)).payload (cell_content f v.cell (tag_in v.token.now)).fired ≡ []
     from Deferred = refl
     from (Answered w) = refl
     from (Filled w r) = refl

@@ -52,20 +52,17 @@ module _ (F : List Row) where
   last_of s lo hi e = omega (arith, e.ends)
 
   -- those up to a row that is added
-  grown : (s : Stand) (lo : ℕ) (R : List Row) (r : Row) → AreExpression F s lo (suc (length R))
-      → AreExpression F s lo (length (R ++ r ∷ []))
+  grown : (s : Stand) (lo : ℕ) (R : List Row) (r : Row) → AreExpression F s lo (suc (length R)) → AreExpression F s lo (length (R ++ r ∷ []))
   grown s lo R r e = subst (AreExpression F s lo) (sym (push-size R r)) e
 
   arguments-within : (t : Tree) (s : Stand) (p e i : ℕ) (T : Parts) → size T ≤ size (add_arguments s p e i T t)
-  arguments-within t s p e i T =
-      (Has-arguments (add_arguments s p e i T t).rows t s p e i T (Has-itself (add_arguments s p e i T t).rows)).within
+  arguments-within t s p e i T = (Has-arguments (add_arguments s p e i T t).rows t s p e i T (Has-itself (add_arguments s p e i T t).rows)).within
 
   nexts-within : (t : Tree) (s : Stand) (i : ℕ) (T : Parts) → size T ≤ size (add_nexts s i T t)
   nexts-within t s i T = (Has-nexts (add_nexts s i T t).rows t s i T (Has-itself (add_nexts s i T t).rows)).within
 
   -- the rows of a store, behind those of its parts
-  stored : (s : Stand) (T : Parts) (t i e : Tree) (p : ℕ) → Has F (add s T (store t i e p)).rows
-      → AreExpression F s (size T) (size (add s T t))
+  stored : (s : Stand) (T : Parts) (t i e : Tree) (p : ℕ) → Has F (add s T (store t i e p)).rows → AreExpression F s (size T) (size (add s T t))
       → AreExpression F s (size (add s T t)) (size (add s (add s T t) i))
       → AreExpression F s (size (addressed s T t i p)) (size (add s (addressed s T t i p) e))
       → AreStatement F s (size T) (size (add s (addressed s T t i p) e))
@@ -94,10 +91,8 @@ module _ (F : List Row) where
       subst (λ k. at F i' ≡ row_in q p f' i' (Switches k)) c
       (subst (λ k. at F i' ≡ row_in q p k i' (Switches j)) a (subst (λ k. at F k ≡ row_in q p f k (Switches j)) b h))
 
-  -- the rows of a loop, of which those before its variables, its switches at the row w, and the first of its body, up
-  -- to
-  -- the row m, are known: T are the parts before its `Start`, K those before its variables, and I those before its
-  -- statements
+  -- the rows of a loop, of which those before its variables, its switches at the row w, and the first of its body, up to
+  -- the row m, are known: T are the parts before its `Start`, K those before its variables, and I those before its statements
   looped : (s : Stand) (from : ℕ) (T K I : Parts) (c t w u m r : ℕ) (ss l : Tree) (p : ℕ) →
       let lo = size T in
       let h = suc lo in
@@ -109,14 +104,12 @@ module _ (F : List Row) where
       let L = add o C l in
       let n = size (spanned s o L p (size C) lo) in
       Has F (end_loop s o p from lo (size C) (last L) L).rows → Has F (enter_loop s T p).rows → size K ≡ h + 1 + c
-      → Has F (add_entries (in_top h) K ss p).rows → suc t ≡ w → size V < t
-      → at F w ≡ row_in (in_top h) p (suc (size V)) w (Switches t) → w < u → u < m
+      → Has F (add_entries (in_top h) K ss p).rows → suc t ≡ w → size V < t → at F w ≡ row_in (in_top h) p (suc (size V)) w (Switches t) → w < u → u < m
       → size I ≡ m → r ≡ suc u
-      → (IsRound F lo h w (last L) n → Variables F h c ss → size N ≤ n
-      → AreNexts F y c (c + nexts_in ss) (size I) (size N)) → AreExpression F o (size C) (size L)
+      → (IsRound F lo h w (last L) n → Variables F h c ss → size N ≤ n → AreNexts F y c (c + nexts_in ss) (size I) (size N))
+      → AreExpression F o (size C) (size L)
       → LoopRows F s p from lo c (size V) t w u m (size N) (last L) n
-  looped s from T K I c t w u m r ss l p has started many entered test_ends test_low switches turn_low begins to_body
-      to_turn statements last_rows =
+  looped s from T K I c t w u m r ss l p has started many entered test_ends test_low switches turn_low begins to_body to_turn statements last_rows =
       let lo = size T in
       let h = suc lo in
       let S = with_row T s p lo Start in
@@ -167,29 +160,23 @@ module _ (F : List Row) where
         begins = begins;
         body = subst (λ k. AreNexts F y c (c + nexts_in ss) k (size N)) to_body body;
         body_end = subst (λ k. at F (size N) ≡ row_in y p k (size N) Body) to_turn (at-push F N.rows _ has_body);
-        last = subst (λ k. AreExpression F o k (suc (last L))) to_last
-            (subst (AreExpression F o (size C)) (sym last_last) last_rows);
+        last = subst (λ k. AreExpression F o k (suc (last L))) to_last (subst (AreExpression F o (size C)) (sym last_last) last_rows);
         reset = subst (λ k. at F k ≡ row_in o p (suc (size N)) k (Reset (last L))) (sym last_last)
-            (subst (λ k. at F (size L) ≡ row_in o p k (size L) (Reset (last L))) to_last
-            (at-push F L.rows _ has_reset));
+            (subst (λ k. at F (size L) ≡ row_in o p k (size L) (Reset (last L))) to_last (at-push F L.rows _ has_reset));
         span = subst (λ k. at F k ≡ row_in s p lo k Span) spanning (at-push F R.rows _ has_span);
         row = loop_row;
       }
 
   mutual
-    pub Are-add : {k : Sort} {t : Tree} (s : Stand) (T : Parts) → IsTree k t → Has F (add s T t).rows
-        → Are k s (size T) (size (add s T t))
-    Are-add s T (by_literal {v} {p}) h =
-        grown s (size T) T.rows _ (are-leaf F s p (size T) (Literal v) (at-push F T.rows _ h) refl refl (λ a q. q))
+    pub Are-add : {k : Sort} {t : Tree} (s : Stand) (T : Parts) → IsTree k t → Has F (add s T t).rows → Are k s (size T) (size (add s T t))
+    Are-add s T (by_literal {v} {p}) h = grown s (size T) T.rows _ (are-leaf F s p (size T) (Literal v) (at-push F T.rows _ h) refl refl (λ a q. q))
     Are-add s T (by_name {x} {p}) h =
-        grown s (size T) T.rows _
-        (are-leaf F s p (size T) (Name (number_of T.names x)) (at-push F T.rows _ h) refl refl (λ a q. q))
+        grown s (size T) T.rows _ (are-leaf F s p (size T) (Name (number_of T.names x)) (at-push F T.rows _ h) refl refl (λ a q. q))
     Are-add s T (by_unary {o} {a} {p} t) h =
         let U = add s T a in
         let e = Are-add s T t (Has-push F U.rows _ h) in
         grown s (size T) U.rows _
-        (are-unary F s p (size T) (last U) (size U) o (at-push F U.rows _ h) (push-within F U.rows _ h)
-        (last_of s (size T) (size U) e) e)
+        (are-unary F s p (size T) (last U) (size U) o (at-push F U.rows _ h) (push-within F U.rows _ h) (last_of s (size T) (size U) e) e)
     Are-add s T (by_binary {o} {a} {b} {p} t u) h =
         let U = add s T a in
         let V = add s U b in
@@ -197,8 +184,7 @@ module _ (F : List Row) where
         let e = Are-add s T t (Has-add F b s U after) in
         let f = Are-add s U u after in
         grown s (size T) V.rows _
-        (are-binary F s p (size T) (size U) (last U) (last V) (size V) o (at-push F V.rows _ h)
-        (push-within F V.rows _ h) (last_of s (size T) (size U) e)
+        (are-binary F s p (size T) (size U) (last U) (last V) (size V) o (at-push F V.rows _ h) (push-within F V.rows _ h) (last_of s (size T) (size U) e)
         (last_of s (size U) (size V) f) e f)
     Are-add s T (by_array {nested} {a} {b} {p} t u) h =
         let U = add s T a in
@@ -207,8 +193,7 @@ module _ (F : List Row) where
         let e = Are-add s T t (Has-add F b s U after) in
         let f = Are-add s U u after in
         grown s (size T) V.rows _
-        (are-array F s nested p (size T) (size U) (last U) (last V) (size V) (at-push F V.rows _ h)
-        (push-within F V.rows _ h) (last_of s (size T) (size U) e)
+        (are-array F s nested p (size T) (size U) (last U) (last V) (size V) (at-push F V.rows _ h) (push-within F V.rows _ h) (last_of s (size T) (size U) e)
         (last_of s (size U) (size V) f) e f)
     Are-add s T (by_fetch {t = a} {i = b} {p} t u) h =
         let U = add s T a in
@@ -217,8 +202,7 @@ module _ (F : List Row) where
         let e = Are-add s T t (Has-add F b s U after) in
         let f = Are-add s U u after in
         grown s (size T) V.rows _
-        (are-fetch F s p (size T) (size U) (last U) (last V) (size V) (at-push F V.rows _ h) (push-within F V.rows _ h)
-        (last_of s (size T) (size U) e)
+        (are-fetch F s p (size T) (size U) (last U) (last V) (size V) (at-push F V.rows _ h) (push-within F V.rows _ h) (last_of s (size T) (size U) e)
         (last_of s (size U) (size V) f) e f)
     Are-add s T (by_conditional {t} {x} {y} {p} d e f) h =
         let U = add s T t in
@@ -239,8 +223,7 @@ module _ (F : List Row) where
           test = test;
           test_ends = last_of s (size T) n test;
           split = at-push F U.rows _ has_split;
-          then = subst (λ m. AreExpression F (arm s n true) m (suc (last X))) start
-              (subst (AreExpression F (arm s n true) (size S)) (sym then_last) then);
+          then = subst (λ m. AreExpression F (arm s n true) m (suc (last X))) start (subst (AreExpression F (arm s n true) (size S)) (sym then_last) then);
           otherwise = subst (λ m. AreExpression F (arm s n false) m (size Y)) (sym then_last) otherwise;
           otherwise_ends = last_of (arm s n false) (size X) (size Y) otherwise;
           row = at-push F Y.rows _ h;
@@ -251,8 +234,7 @@ module _ (F : List Row) where
         let U = add_arguments s p e 0 E a in
         let has = Has-push F U.rows _ h in
         let own = Has-arguments F a s p e 0 E has in
-        let start =
-        called-enter F s p e (size U) (count_of a) (number_of T.names x) (at-push F T.rows _ own) (at-push F U.rows _ h)
+        let start = called-enter F s p e (size U) (count_of a) (number_of T.names x) (at-push F T.rows _ own) (at-push F U.rows _ h)
         (push-within F U.rows _ h) in
         let all = Are-arguments s p e (size U) (count_of a) 0 E d has (omega arith) (omega arith)
         (subst (Called F s p e (size U) (count_of a) 0) (sym (push-size T.rows _)) start) in
@@ -266,8 +248,7 @@ module _ (F : List Row) where
         let f = Are-add s U u after in
         let ends = last_of s (size U) (size V) f in
         grown s (size T) V.rows _
-        (are-block F s p (size T) (size U) (last V) (size V) (at V.rows (last V)).value (at-push F V.rows _ h)
-        (push-within F V.rows _ h) ends
+        (are-block F s p (size T) (size U) (last V) (size V) (at V.rows (last V)).value (at-push F V.rows _ h) (push-within F V.rows _ h) ends
         (ap (λ (r : Row). r.value) (sym (after.same (last V) (omega arith)))) (Are-add s T t (Has-add F b s U after)) f)
     Are-add s T no_statements h = record {
       low = omega arith;
@@ -281,8 +262,7 @@ module _ (F : List Row) where
         let after = Has-add F ss s V h in
         let e = Are-add s T t (Has-push F U.rows _ after) in
         statement-before F s (size T) (size U) (size (add s V ss))
-        (are-binding F s p (size T) (number_of U.names x) (last U) (size U) (at-push F U.rows _ after)
-        (last_of s (size T) (size U) e) e)
+        (are-binding F s p (size T) (number_of U.names x) (last U) (size U) (at-push F U.rows _ after) (last_of s (size T) (size U) e) e)
         (subst (λ n. AreStatements F s n (size (add s V ss))) (push-size U.rows _) (Are-add s V u h))
     Are-add s T (next_statement {x} {a} {ss} {p} t u) h =
         let U = add s T a in
@@ -290,8 +270,7 @@ module _ (F : List Row) where
         let after = Has-add F ss s V h in
         let e = Are-add s T t (Has-push F U.rows _ after) in
         statement-before F s (size T) (size U) (size (add s V ss))
-        (are-binding F s p (size T) (number_of U.names x) (last U) (size U) (at-push F U.rows _ after)
-        (last_of s (size T) (size U) e) e)
+        (are-binding F s p (size T) (number_of U.names x) (last U) (size U) (at-push F U.rows _ after) (last_of s (size T) (size U) e) e)
         (subst (λ n. AreStatements F s n (size (add s V ss))) (push-size U.rows _) (Are-add s V u h))
     Are-add s T (store_statement {t} {i} {e} {ss} {p} d f g u) h =
         let U = add s T t in
@@ -302,9 +281,7 @@ module _ (F : List Row) where
         let after = Has-add F ss s X h in
         let has = Has-push F W.rows _ after in
         let has_index = Has-push F V.rows _ (Has-add F e s A has) in
-        let own =
-        stored s T t i e p after (Are-add s T d (Has-add F i s U has_index)) (Are-add s U f has_index)
-        (Are-add s A g has) in
+        let own = stored s T t i e p after (Are-add s T d (Has-add F i s U has_index)) (Are-add s U f has_index) (Are-add s A g has) in
         statement-before F s (size T) (size W) (size (add s X ss)) own
         (subst (λ n. AreStatements F s n (size (add s X ss))) (push-size W.rows _) (Are-add s X u h))
     Are-add s T (by_loop {t} {ss} {l} {p} d e f) h =
@@ -339,16 +316,11 @@ module _ (F : List Row) where
         let to_body : size B ≡ suc (size W) = push-size W.rows _ in
         let test = Are-add (in_top head) E d has_test in
         let test_last : suc (last U) ≡ w = last_of (in_top head) (size E) w test in
-        let switches =
-        moved (in_top head) p (size E) (suc (size V)) w w (last U) (last U) (at-push F U.rows _ has_switches) to_test
-        refl refl in
+        let switches = moved (in_top head) p (size E) (suc (size V)) w w (last U) (last U) (at-push F U.rows _ has_switches) to_test refl refl in
         let turn = subst (λ k. at F k ≡ row_in body p k k Turn) to_turn (at-push F W.rows _ has_turn) in
-        let rows =
-        looped s lo T H B 0 (last U) w (suc w) (suc (suc w)) (size B) ss l p h has_head (omega arith) has_entries
-        test_last
+        let rows = looped s lo T H B 0 (last U) w (suc w) (suc (suc w)) (size B) ss l p h has_head (omega arith) has_entries test_last
         (omega (arith, test.low, test.ends)) switches (omega arith) (omega arith) (omega arith) (omega arith)
-        (λ round variables within. Are-nexts lo head w (last L) n 0 B e round has_statements variables (omega arith)
-        within) (Are-add behind C f has_last) in
+        (λ round variables within. Are-nexts lo head w (last L) n 0 B e round has_statements variables (omega arith) within) (Are-add behind C f has_last) in
         let test_rows = subst (λ k. AreExpression F (in_top head) k w) to_test test in
         grown s lo Z.rows _ (are-loop F s p lo lo 0 (size V) (last U) w (suc w) (suc (suc w)) (size N) (last L) n rows
         (while-own F s p lo (size V) (last U) w (size N) (last L) n rows test_rows turn))
@@ -417,41 +389,27 @@ module _ (F : List Row) where
         let count_at : size W ≡ suc w = omega arith in
         let turn_at : size O ≡ suc (suc w) = omega arith in
         let index_at : size B ≡ suc (suc (suc w)) = omega arith in
-        let switches =
-        moved (in_top head) p (size E) (suc (size V)) (size D) w (last D) (suc (size V))
-        (at-push F D.rows _ has_switches) to_within switches_at
+        let switches = moved (in_top head) p (size E) (suc (size V)) (size D) w (last D) (suc (size V)) (at-push F D.rows _ has_switches) to_within switches_at
         test_at in
-        let rows =
-        looped s from A K I 3 (suc (size V)) w (suc (suc w)) (suc (suc (suc (suc w)))) (last I) ss l p h has_head
-        (omega arith) has_entries
+        let rows = looped s from A K I 3 (suc (size V)) w (suc (suc w)) (suc (suc (suc (suc w)))) (last I) ss l p h has_head (omega arith) has_entries
         (omega arith) (omega arith) switches (omega arith) (omega arith) (omega arith) (omega arith)
-        (λ round variables within. Are-nexts lo head w (last L) n 3 I f round has_statements variables (omega arith)
-        within) (Are-add behind C g has_last) in
-        grown s from Z.rows _
-        (are-loop F s p from lo 3 (size V) (suc (size V)) w (suc (suc w)) (suc (suc (suc (suc w)))) (size N) (last L) n
-        rows
-        (for-own F s p q (number_of B.names x) from (size U) (size Y) lo (last U) (last Y) (size V) w (size N) (last L)
-        n (record {
+        (λ round variables within. Are-nexts lo head w (last L) n 3 I f round has_statements variables (omega arith) within) (Are-add behind C g has_last) in
+        grown s from Z.rows _ (are-loop F s p from lo 3 (size V) (suc (size V)) w (suc (suc w)) (suc (suc (suc (suc w)))) (size N) (last L) n rows
+        (for-own F s p q (number_of B.names x) from (size U) (size Y) lo (last U) (last Y) (size V) w (size N) (last L) n (record {
           low = low;
           low_ends = last_of s from (size U) low;
           high = high;
           high_ends = last_of s (size U) (size Y) high;
           bounds = at-push F Y.rows _ has_bounds;
           behind = sym to_start;
-          entry = subst (λ k. at F k ≡ row_in (in_top head) q k k (Carried kind.Int)) entry
-              (at-push F H.rows _ has_entry);
-          bound = subst (λ k. at F k ≡ row_in (in_top head) p k k (Carried kind.Int)) bound
-              (at-push F one.rows _ has_bound);
-          flag_row =
-              subst (λ k. at F k ≡ row_in (in_top head) p k k (Carried kind.Bool)) flag_at
-              (at-push F two.rows _ has_carried);
-          within = subst (λ k. at F k ≡ row_in (in_top head) p k (head + 3) (Within (head + 3))) to_within
-              (at-push F E.rows _ has_within);
+          entry = subst (λ k. at F k ≡ row_in (in_top head) q k k (Carried kind.Int)) entry (at-push F H.rows _ has_entry);
+          bound = subst (λ k. at F k ≡ row_in (in_top head) p k k (Carried kind.Int)) bound (at-push F one.rows _ has_bound);
+          flag_row = subst (λ k. at F k ≡ row_in (in_top head) p k k (Carried kind.Bool)) flag_at (at-push F two.rows _ has_carried);
+          within = subst (λ k. at F k ≡ row_in (in_top head) p k (head + 3) (Within (head + 3))) to_within (at-push F E.rows _ has_within);
           before_body = omega arith;
           count = subst (λ k. at F k ≡ row_in body p k k Count) count_at (at-push F W.rows _ has_count);
           turn = subst (λ k. at F k ≡ row_in body p k k Turn) turn_at (at-push F O.rows _ has_turn);
-          index = subst (λ k. at F k ≡ row_in body q k k (Index (number_of B.names x))) index_at
-              (at-push F B.rows _ has_index);
+          index = subst (λ k. at F k ≡ row_in body q k k (Index (number_of B.names x))) index_at (at-push F B.rows _ has_index);
         }) rows))
     Are-add s T no_params h = λ high. record {
       low = omega arith;
@@ -461,8 +419,7 @@ module _ (F : List Row) where
     }
     Are-add s T (more_params {x} {k} {ps} {p} t) h =
         let U = add s T (param x k p) in
-        λ high. are-param F s p (size (add s U ps)) (number_of T.names x) (size T) k high
-        (at-push F T.rows _ (Has-add F ps s U h))
+        λ high. are-param F s p (size (add s U ps)) (number_of T.names x) (size T) k high (at-push F T.rows _ (Has-add F ps s U h))
         (subst (λ n. AreParams F s n (size (add s U ps))) (push-size T.rows _) (Are-add s U t h high))
     Are-add s T no_defs h = λ i b c. absurd (omega arith)
     Are-add s T (more_defs {x} {k} {ps} {b} {ds} {p} t u v) h =
@@ -474,20 +431,15 @@ module _ (F : List Row) where
         let V = add w U b in
         let has = Has-add F ds s D h in
         let after = Has-push F V.rows _ has in
-        let own =
-        are-define F T.rows V.rows p (size U) (number_of V.names x) (last V) k
-        (Has-add F ps w H (Has-add F b w U after)) has
+        let own = are-define F T.rows V.rows p (size U) (number_of V.names x) (last V) k (Has-add F ps w H (Has-add F b w U after)) has
         (Are-add w H t (Has-add F b w U after) refl) (Are-add w U u after) (NoParams-expression F w U u after) refl in
         let rest = Are-add s D v h in
         λ i c d. elim (cases_lt i (size D)) [ inl f ↦ own i c f | inr f ↦ rest i f d ]
 
     -- the rows of arguments come behind those of the arguments before them
-    Are-arguments : {t : Tree} (s : Stand) (p e n c i : ℕ) (T : Parts) → IsTree Arguments t
-        → Has F (add_arguments s p e i T t).rows → i + count_of t ≡ c
-        → size (add_arguments s p e i T t) ≤ n → Called F s p e n c i (size T)
-        → Called F s p e n c c (size (add_arguments s p e i T t))
-    Are-arguments s p e n c i T no_arguments h same within t =
-        let z : i ≡ c = omega arith in subst (λ k. Called F s p e n c k (size T)) z t
+    Are-arguments : {t : Tree} (s : Stand) (p e n c i : ℕ) (T : Parts) → IsTree Arguments t → Has F (add_arguments s p e i T t).rows → i + count_of t ≡ c
+        → size (add_arguments s p e i T t) ≤ n → Called F s p e n c i (size T) → Called F s p e n c c (size (add_arguments s p e i T t))
+    Are-arguments s p e n c i T no_arguments h same within t = let z : i ≡ c = omega arith in subst (λ k. Called F s p e n c k (size T)) z t
     Are-arguments s p e n c i T (more_arguments {a} {b} d f) h same within t =
         let U = add s T a in
         let A = argued s p e i U in
@@ -495,18 +447,14 @@ module _ (F : List Row) where
         let value = Are-add s T d (Has-push F U.rows _ has) in
         let long = push-size U.rows (row_for U.rows s p e (Arg e i (last U))) in
         let longer : size A ≤ size (add_arguments s p e (suc i) A b) = arguments-within b s p e (suc i) A in
-        let one =
-        called-argument F s p e n c i (size T) (size U) (last U) t value (last_of s (size T) (size U) value)
-        (at-push F U.rows _ has)
+        let one = called-argument F s p e n c i (size T) (size U) (last U) t value (last_of s (size T) (size U) value) (at-push F U.rows _ has)
         (omega arith) (omega arith) in
         Are-arguments s p e n c (suc i) A f h (omega arith) within (subst (Called F s p e n c (suc i)) (sym long) one)
 
     -- the rows of the statements of a loop
-    Are-nexts : {t : Tree} (u g w l n i : ℕ) (T : Parts) → IsTree Statements t → IsRound F u g w l n
-        → Has F (add_nexts (arm (in_top g) w true) i T t).rows → Variables F g i t → w < size T
-        → size (add_nexts (arm (in_top g) w true) i T t) ≤ n
-        → AreNexts F (arm (in_top g) w true) i (i + nexts_in t) (size T)
-        (size (add_nexts (arm (in_top g) w true) i T t))
+    Are-nexts : {t : Tree} (u g w l n i : ℕ) (T : Parts) → IsTree Statements t → IsRound F u g w l n → Has F (add_nexts (arm (in_top g) w true) i T t).rows
+        → Variables F g i t → w < size T → size (add_nexts (arm (in_top g) w true) i T t) ≤ n
+        → AreNexts F (arm (in_top g) w true) i (i + nexts_in t) (size T) (size (add_nexts (arm (in_top g) w true) i T t))
     Are-nexts u g w l n i T no_statements r h v after within =
         let s = arm (in_top g) w true in
         let z : i ≡ i + 0 = omega arith in
@@ -520,11 +468,9 @@ module _ (F : List Row) where
         let value = Are-add s T d (Has-push F U.rows _ has) in
         let long : size V ≡ suc (size U) = push-size U.rows _ in
         let one = one-statement F s (size T) i (size U) (omega (arith, r.low))
-        (are-binding F s p (size T) (number_of U.names x) (last U) (size U) (at-push F U.rows _ has)
-        (last_of s (size T) (size U) value) value) in
+        (are-binding F s p (size T) (number_of U.names x) (last U) (size U) (at-push F U.rows _ has) (last_of s (size T) (size U) value) value) in
         let rest = Are-nexts u g w l n i V e r h v (omega (arith, value.low, value.ends)) within in
-        nexts-both F s i i c (size T) (size V) (size (add_nexts s i V ss))
-        (subst (AreNexts F s i i (size T)) (sym long) one) rest
+        nexts-both F s i i c (size T) (size V) (size (add_nexts s i V ss)) (subst (AreNexts F s i i (size T)) (sym long) one) rest
     Are-nexts u g w l n j T (store_statement {t} {i} {e} {ss} {p} d f k q) r h v after within =
         let s = arm (in_top g) w true in
         let U = add s T t in
@@ -536,14 +482,11 @@ module _ (F : List Row) where
         let has = Has-nexts F ss s j X h in
         let has_value = Has-push F W.rows _ has in
         let has_index = Has-push F V.rows _ (Has-add F e s A has_value) in
-        let own =
-        stored s T t i e p has (Are-add s T d (Has-add F i s U has_index)) (Are-add s U f has_index)
-        (Are-add s A k has_value) in
+        let own = stored s T t i e p has (Are-add s T d (Has-add F i s U has_index)) (Are-add s U f has_index) (Are-add s A k has_value) in
         let long : size X ≡ suc (size W) = push-size W.rows _ in
         let one = one-statement F s (size T) j (size W) (omega (arith, r.low)) own in
         let rest = Are-nexts u g w l n j X q r h v (omega (arith, own.low)) within in
-        nexts-both F s j j c (size T) (size X) (size (add_nexts s j X ss))
-        (subst (AreNexts F s j j (size T)) (sym long) one) rest
+        nexts-both F s j j c (size T) (size X) (size (add_nexts s j X ss)) (subst (AreNexts F s j j (size T)) (sym long) one) rest
     Are-nexts u g w l n i T (next_statement {x} {a} {ss} {p} d e) r h v after within =
         let s = arm (in_top g) w true in
         let N = used s T x p in
@@ -559,10 +502,8 @@ module _ (F : List Row) where
         let long : size V ≡ suc (size U) = push-size U.rows _ in
         let longer : size V ≤ size (add_nexts s (suc i) V ss) = nexts-within ss s (suc i) V in
         let one = one-next F u g w l n r p (size T) name i (last U) (size U) (at-push F T.rows _ has_use)
-        (subst (λ k. AreExpression F s k (size U)) short value) (last_of s (size N) (size U) value)
-        (at-push F U.rows _ has) v.0 after (omega arith) in
+        (subst (λ k. AreExpression F s k (size U)) short value) (last_of s (size N) (size U) value) (at-push F U.rows _ has) v.0 after (omega arith) in
         let rest = Are-nexts u g w l n (suc i) V e r h v.1 (omega (arith, value.low, value.ends)) within in
         let z : c ≡ i + suc (nexts_in ss) = omega arith in
         subst (λ k. AreNexts F s i k (size T) (size (add_nexts s (suc i) V ss))) z
-        (nexts-both F s i (suc i) c (size T) (size V) (size (add_nexts s (suc i) V ss))
-        (subst (AreNexts F s i (suc i) (size T)) (sym long) one) rest)
+        (nexts-both F s i (suc i) c (size T) (size V) (size (add_nexts s (suc i) V ss)) (subst (AreNexts F s i (suc i) (size T)) (sym long) one) rest)

@@ -1,6 +1,5 @@
 -- Which blocks are round a row.
-use Rattle.std.proofs.Common.{◌≡◌, ◌⊎◌, inl, inr, ◌<◌, ◌≤◌, ℕ, zero, suc, Bool, true, false, ◌&&◌, ◌||◌, List, length}
-use Rattle.std.proofs.Common.{refl, sym, ap, ◌∙◌, arith}
+use Rattle.std.proofs.Common.{◌≡◌, ◌⊎◌, inl, inr, ◌<◌, ◌≤◌, ℕ, zero, suc, Bool, true, false, ◌&&◌, ◌||◌, List, length, refl, sym, ap, ◌∙◌, arith}
 use Rattle.std.proofs.lemmas.Bool.{cases_lt, false≢true, leb-true, ltb-true, le-leb, lt-ltb}
 use Rattle.std.proofs.lemmas.Bool.Decides.{nat_tests}
 use Rattle.std.specs.Prelude.{nat_lt, nat_le}
@@ -42,16 +41,13 @@ module _ (R : List Row) where
   around-true s i h l = and_true (nat_le (at R s).first i) (nat_lt i s) (le-leb (at R s).first i h) (lt-ltb i s l)
 
   pub around-before : (s i : ℕ) → s ≤ i → around R s i ≡ false
-  around-before s i h =
-      let no : nat_lt i s ≡ false = grind (arith, nat_tests) in and_false (nat_le (at R s).first i) (nat_lt i s) no
+  around-before s i h = let no : nat_lt i s ≡ false = grind (arith, nat_tests) in and_false (nat_le (at R s).first i) (nat_lt i s) no
 
   pub around-behind : (s i : ℕ) → i < (at R s).first → around R s i ≡ false
-  around-behind s i h =
-      let no : nat_le (at R s).first i ≡ false = grind (arith, nat_tests) in ap (λ b. b && nat_lt i s) no
+  around-behind s i h = let no : nat_le (at R s).first i ≡ false = grind (arith, nat_tests) in ap (λ b. b && nat_lt i s) no
 
   pub around-within : (s i : ℕ) → around R s i ≡ true → ((at R s).first ≤ i) × (i < s)
-  around-within s i h =
-      let p = and_both (nat_le (at R s).first i) (nat_lt i s) h in (leb-true (at R s).first i p.0, ltb-true i s p.1)
+  around-within s i h = let p = and_both (nat_le (at R s).first i) (nat_lt i s) h in (leb-true (at R s).first i p.0, ltb-true i s p.1)
 
   -- no row up to this one is a block round it
   pub in_block-before : (i v : ℕ) → v ≤ suc i → in_block R i v ≡ false
@@ -60,8 +56,7 @@ module _ (R : List Row) where
       (and_false (has_statements (at R v).node) (around R v i) (around-before v i (omega arith)))
 
   -- rows that begin behind it are not round it
-  pub in_block-behind : (i u v : ℕ) → u ≤ v → in_block R i u ≡ false → ((k : ℕ) → u ≤ k → k < v → i < (at R k).first)
-      → in_block R i v ≡ false
+  pub in_block-behind : (i u v : ℕ) → u ≤ v → in_block R i u ≡ false → ((k : ℕ) → u ≤ k → k < v → i < (at R k).first) → in_block R i v ≡ false
   in_block-behind i u zero h e f = refl
   in_block-behind i u (suc v) h e f = elim (cases_lt v u) [
     | inl l ↦ let same : suc v ≡ u = omega arith in ap (in_block R i) same ∙ e
@@ -76,14 +71,11 @@ module _ (R : List Row) where
     | inr l ↦ or_left (in_block R i v) _ (in_block-more i u v l e)
   ]
 
-  pub in_block-here : (i v : ℕ) → has_statements (at R v).node ≡ true → (at R v).first ≤ i → i < v
-      → in_block R i (suc v) ≡ true
-  in_block-here i v b f l =
-      or_true (in_block R i v) _ (and_true (has_statements (at R v).node) (around R v i) b (around-true v i f l))
+  pub in_block-here : (i v : ℕ) → has_statements (at R v).node ≡ true → (at R v).first ≤ i → i < v → in_block R i (suc v) ≡ true
+  in_block-here i v b f l = or_true (in_block R i v) _ (and_true (has_statements (at R v).node) (around R v i) b (around-true v i f l))
 
   -- a binding or a store that has a block round it stands right in one
-  pub statement_of : (b v : ℕ) → v ≤ length R → is_statement (at R b).node ≡ true → in_block R b v ≡ true
-      → (s : ℕ) × (s < length R) × IsStatement R s b
+  pub statement_of : (b v : ℕ) → v ≤ length R → is_statement (at R b).node ≡ true → in_block R b v ≡ true → (s : ℕ) × (s < length R) × IsStatement R s b
   statement_of b zero h n e = absurd (false≢true e)
   statement_of b (suc v) h n e = elim (or_cases (in_block R b v) _ e) [
     | inl i ↦ statement_of b v (omega arith) n i

@@ -1,6 +1,5 @@
 -- What is true of the rows of a call.
-use Rattle.std.proofs.Common.{◌≡◌, ◌⊎◌, inl, inr, ◌<◌, ◌≤◌, ℕ, suc, true, false, List, length, refl, sym, ap, ◌∙◌}
-use Rattle.std.proofs.Common.{subst, arith}
+use Rattle.std.proofs.Common.{◌≡◌, ◌⊎◌, inl, inr, ◌<◌, ◌≤◌, ℕ, suc, true, false, List, length, refl, sym, ap, ◌∙◌, subst, arith}
 use Rattle.std.proofs.lemmas.Bool.{cases_lt, false≢true}
 use Rattle.id_table.specs.declared.row.Row.{Row}
 use Rattle.id_table.specs.declared.row.Stand.{Stand}
@@ -12,8 +11,7 @@ use Rattle.id_table.specs.Calls.{AreArgs, IsArgIn, IsArgOf, IsCallOf, IsEnterOf}
 use Rattle.id_table.specs.Turns.{TurnedIn, Turns, in_block}
 use Rattle.id_table.proofs.BlockLemmas.{in_block-more}
 use Rattle.id_table.proofs.HasLemmas.{row_in}
-use Rattle.id_table.proofs.RowLemmas.{Fits, RowIs-fits, RowsAre, RowsAre-both, RowsAre-none, RowsAre-suc, StandsHere}
-use Rattle.id_table.proofs.RowLemmas.{gives_own}
+use Rattle.id_table.proofs.RowLemmas.{Fits, RowIs-fits, RowsAre, RowsAre-both, RowsAre-none, RowsAre-suc, StandsHere, gives_own}
 use Rattle.id_table.proofs.ExpressionLemmas.{AreExpression, expression-fits, part_of}
 
 -- the row j is an argument of the call whose `Enter` is at e, of an index below i
@@ -65,8 +63,7 @@ module _ (F : List Row) (s : Stand) (p e n c : ℕ) where
   }
 
   -- a call begins with its `Enter`
-  pub called-enter : (x : ℕ) → at F e ≡ row_in s p e e (Enter x) → at F n ≡ row_in s p e n (Call e c) → n < length F
-      → Called F s p e n c 0 (suc e)
+  pub called-enter : (x : ℕ) → at F e ≡ row_in s p e e (Enter x) → at F n ≡ row_in s p e n (Call e c) → n < length F → Called F s p e n c 0 (suc e)
   called-enter x q w within =
       let none = RowsAre-none F s e in
       let node : (at F e).node ≡ Enter x = ap (λ (r : Row). r.node) q in
@@ -76,8 +73,7 @@ module _ (F : List Row) (s : Stand) (p e n c : ℕ) where
         call = w;
         within = within;
         enter = q;
-        rows = RowsAre-suc F s e e none
-            (RowIs-fits F s p e e e (Enter x) q (omega arith) none refl (enter_fits x (is_call w within)));
+        rows = RowsAre-suc F s e e none (RowIs-fits F s p e e e (Enter x) q (omega arith) none refl (enter_fits x (is_call w within)));
         own = λ j d f. absurd (omega arith);
         each = λ k d. absurd (omega arith);
         once = λ m l k d f. absurd (omega arith);
@@ -138,10 +134,7 @@ module _ (F : List Row) (s : Stand) (p e n c : ℕ) where
             | inr q ↦ (omega (arith, q, value_low, t.low), omega (arith, q, ends))
           ];
           part_stands = λ b h. elim h [
-            | inl q ↦ subst (StandsHere F s) (sym q) (
-              ap (λ (r : Row). r.block) t.enter,
-              ap (λ (r : Row). r.region) t.enter,
-            )
+            | inl q ↦ subst (StandsHere F s) (sym q) (ap (λ (r : Row). r.block) t.enter, ap (λ (r : Row). r.region) t.enter)
             | inr q ↦ subst (StandsHere F s) (sym q) part.stands
           ];
           operand_is = λ b h. subst (λ k. is_expression (at F k).node ≡ true) (sym h) part.expression;
@@ -209,8 +202,7 @@ module _ (F : List Row) (s : Stand) (p e n c : ℕ) where
     each_all : (k : ℕ) → k < suc i → (m : ℕ) × IsArgOf F m e k
     each_all k d = elim (cases_lt k i) [
       | inl l ↦ t.each k l
-      | inr l ↦ let z : i ≡ k =
-          omega arith in (mid, record { value = v; within = inside; node = arg_node ∙ ap (λ j. Arg e j v) z })
+      | inr l ↦ let z : i ≡ k = omega arith in (mid, record { value = v; within = inside; node = arg_node ∙ ap (λ j. Arg e j v) z })
     ]
 
     turned_all : ((m k w : ℕ) → m < length F → (at F m).node ≡ Arg e k w → TurnedIn F s.region w)
@@ -242,8 +234,7 @@ module _ (F : List Row) (s : Stand) (p e n c : ℕ) where
       call = t.call;
       within = t.within;
       enter = t.enter;
-      rows = RowsAre-suc F s e mid rows_before
-          (RowIs-fits F s p e mid mid (Arg e i v) row (omega (arith, inner)) rows_before refl arg_fits);
+      rows = RowsAre-suc F s e mid rows_before (RowIs-fits F s p e mid mid (Arg e i v) row (omega (arith, inner)) rows_before refl arg_fits);
       own = own_all;
       each = each_all;
       once = once_all;
@@ -270,8 +261,7 @@ module _ (F : List Row) (s : Stand) (p e n c : ℕ) where
     alone : (j d : ℕ) → e < j → j < n → (at F j).node ≡ Call e d → ⊥
     alone j d f g h = elim (t.own j f g) [
       | inl o ↦ false≢true (sym (ap is_expression o.node) ∙ ap is_expression h)
-      | inr b ↦ let q =
-          (t.rows j (omega (arith, f)) g).fits.formed e (subst (λ m. HasPart m e) (sym h) refl) in omega (arith, q.0, b)
+      | inr b ↦ let q = (t.rows j (omega (arith, f)) g).fits.formed e (subst (λ m. HasPart m e) (sym h) refl) in omega (arith, q.0, b)
     ]
 
     are_args : AreArgs F e n c
@@ -281,8 +271,7 @@ module _ (F : List Row) (s : Stand) (p e n c : ℕ) where
     call_fits : Fits F s e n n (Call e c)
     call_fits = record {
       formed = λ a h. (omega (arith, h), omega (arith, h, t.low));
-      part_stands =
-          λ a h. subst (StandsHere F s) (sym h) (ap (λ (r : Row). r.block) t.enter, ap (λ (r : Row). r.region) t.enter);
+      part_stands = λ a h. subst (StandsHere F s) (sym h) (ap (λ (r : Row). r.block) t.enter, ap (λ (r : Row). r.region) t.enter);
       operand_is = λ a h. absurd h;
       value_block = λ b h. absurd (no_block (Call e c) b refl h);
       value_self = λ h. refl;

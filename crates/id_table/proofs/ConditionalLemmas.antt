@@ -1,6 +1,5 @@
 -- What is true of the rows of a conditional.
-use Rattle.std.proofs.Common.{◌≡◌, inl, inr, ◌<◌, ◌≤◌, ℕ, suc, Bool, true, false, List, length, refl, sym, ap, ◌∙◌}
-use Rattle.std.proofs.Common.{subst, arith}
+use Rattle.std.proofs.Common.{◌≡◌, inl, inr, ◌<◌, ◌≤◌, ℕ, suc, Bool, true, false, List, length, refl, sym, ap, ◌∙◌, subst, arith}
 use Rattle.std.proofs.lemmas.Bool.{cases_lt, false≢true}
 use Rattle.id_table.specs.declared.row.Row.{Row}
 use Rattle.id_table.specs.declared.row.Stand.{Stand}
@@ -14,8 +13,7 @@ use Rattle.id_table.proofs.HasLemmas.{row_in}
 use Rattle.id_table.proofs.RowLemmas.{Fits, RowIs, RowIs-fits, RowIs-within, RowsAre, StandsHere, gives_own}
 use Rattle.id_table.proofs.ExpressionLemmas.{AreExpression, expression-fits, part_of}
 
--- the rows from lo on are those of a conditional at the row n: its predicate's, the last of which is t, its split at u,
--- and those of
+-- the rows from lo on are those of a conditional at the row n: its predicate's, the last of which is t, its split at u, and those of
 -- its arms, the last of which are x and y
 pub record Branches (F : List Row) (s : Stand) (p lo t u x y n : ℕ) : Type 0 where
   pub within : n < length F
@@ -111,8 +109,7 @@ module _ (F : List Row) (s : Stand) (p lo t u x y n : ℕ) (b : Branches F s p l
       no_block a c h = false≢true (ap is_block h)
 
   -- a row that stands in an arm stands in the conditional's region, or further in
-  arm_row : (side : Bool) (mid i : ℕ) → lo ≤ mid → InArm u x n side i → RowIs F (arm s u side) mid i (at F i)
-      → RowIs F s lo i (at F i)
+  arm_row : (side : Bool) (mid i : ℕ) → lo ≤ mid → InArm u x n side i → RowIs F (arm s u side) mid i (at F i) → RowIs F s lo i (at F i)
   arm_row side mid i l among h =
       let lies : Lies F s.region (arm_at u side) =
       Lies.in_arm (omega (arith, b.within, then_low, otherwise_low, last_low)) (ap is_split split_node)
@@ -133,14 +130,10 @@ module _ (F : List Row) (s : Stand) (p lo t u x y n : ℕ) (b : Branches F s p l
     | inr f ↦ elim (cases_lt u i) [
       | inr g ↦ let z : u ≡ i = omega arith in
           subst (λ k. RowIs F s lo k (at F k)) z
-          (RowIs-fits F s p lo u u (Split t) b.split (omega (arith, test_low, before_split)) b.test.rows refl
-          split_fits)
+          (RowIs-fits F s p lo u u (Split t) b.split (omega (arith, test_low, before_split)) b.test.rows refl split_fits)
       | inl g ↦ elim (cases_lt x i) [
         | inr k ↦ arm_row true (suc u) i (omega (arith, test_low, before_split)) (g, k) (b.then.rows i g (omega arith))
-        | inl k ↦ arm_row false (suc x) i (omega (arith, test_low, before_split, then_low)) (
-          k,
-          d,
-        ) (b.otherwise.rows i k d)
+        | inl k ↦ arm_row false (suc x) i (omega (arith, test_low, before_split, then_low)) (k, d) (b.otherwise.rows i k d)
       ]
     ]
   ]
@@ -176,24 +169,19 @@ module _ (F : List Row) (s : Stand) (p lo t u x y n : ℕ) (b : Branches F s p l
       no_block c h = false≢true (ap is_block h)
 
   -- the expressions of the predicate are turned on with the conditional, those of the arms with their regions
-  turned_before : TurnedIn F s.region n → (j : ℕ) → lo ≤ j → j < n → can_be_on (at F j).node ≡ true
-      → TurnedIn F (at F j).region j
+  turned_before : TurnedIn F s.region n → (j : ℕ) → lo ≤ j → j < n → can_be_on (at F j).node ≡ true → TurnedIn F (at F j).region j
   turned_before on j c d k =
       let zero : t ≡ b.test.end = omega (arith, b.test.ends, b.test_ends) in
       let one : x ≡ b.then.end = omega (arith, b.then.ends) in
       let two : y ≡ b.otherwise.end = omega (arith, b.otherwise.ends, b.otherwise_ends) in
       elim (cases_lt j u) [
-        | inl f ↦ b.test.turned
-            (subst (TurnedIn F s.region) zero (TurnedIn.part on b.within (Turns.test if_node split_node))) j c f k
+        | inl f ↦ b.test.turned (subst (TurnedIn F s.region) zero (TurnedIn.part on b.within (Turns.test if_node split_node))) j c f k
         | inr f ↦ elim (cases_lt u j) [
           | inr g ↦ let z : j ≡ u = omega arith in
               absurd (false≢true (sym (ap can_be_on split_node) ∙ sym (ap (λ l. can_be_on (at F l).node) z) ∙ k))
           | inl g ↦ elim (cases_lt x j) [
-            | inr l ↦ b.then.turned
-                (subst (TurnedIn F (arm_at u true)) one (TurnedIn.root (Root.of_then b.within if_node))) j g
-                (omega arith) k
-            | inl l ↦ b.otherwise.turned
-                (subst (TurnedIn F (arm_at u false)) two (TurnedIn.root (Root.of_otherwise b.within if_node))) j l d k
+            | inr l ↦ b.then.turned (subst (TurnedIn F (arm_at u true)) one (TurnedIn.root (Root.of_then b.within if_node))) j g (omega arith) k
+            | inl l ↦ b.otherwise.turned (subst (TurnedIn F (arm_at u false)) two (TurnedIn.root (Root.of_otherwise b.within if_node))) j l d k
           ]
         ]
       ]
@@ -202,12 +190,9 @@ module _ (F : List Row) (s : Stand) (p lo t u x y n : ℕ) (b : Branches F s p l
   held_before j c d k = elim (cases_lt j u) [
     | inl f ↦ in_block-more F j u (suc n) (omega (arith, then_low, otherwise_low, last_low)) (b.test.held j c f k)
     | inr f ↦ elim (cases_lt u j) [
-      | inr g ↦ let z : j ≡ u =
-          omega arith in
-          absurd (false≢true (sym (ap is_statement split_node) ∙ sym (ap (λ l. is_statement (at F l).node) z) ∙ k))
+      | inr g ↦ let z : j ≡ u = omega arith in absurd (false≢true (sym (ap is_statement split_node) ∙ sym (ap (λ l. is_statement (at F l).node) z) ∙ k))
       | inl g ↦ elim (cases_lt x j) [
-        | inr l ↦ in_block-more F j (suc x) (suc n) (omega (arith, otherwise_low, last_low))
-            (b.then.held j g (omega arith) k)
+        | inr l ↦ in_block-more F j (suc x) (suc n) (omega (arith, otherwise_low, last_low)) (b.then.held j g (omega arith) k)
         | inl l ↦ in_block-more F j n (suc n) (omega arith) (b.otherwise.held j l d k)
       ]
     ]

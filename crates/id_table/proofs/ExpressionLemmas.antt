@@ -1,6 +1,5 @@
 -- What is true of the rows of an expression, of statements, and of parameters.
-use Rattle.std.proofs.Common.{◌≡◌, ◌⊎◌, inl, inr, ◌<◌, ◌≤◌, ℕ, suc, Bool, true, false, List, length, refl, sym, ap, ◌∙◌}
-use Rattle.std.proofs.Common.{subst, arith}
+use Rattle.std.proofs.Common.{◌≡◌, ◌⊎◌, inl, inr, ◌<◌, ◌≤◌, ℕ, suc, Bool, true, false, List, length, refl, sym, ap, ◌∙◌, subst, arith}
 use Rattle.std.proofs.lemmas.Bool.{cases_lt, false≢true}
 use Rattle.id_value.specs.declared.Kind.{Kind}
 use Rattle.id_value.specs.declared.UnaryOp.{UnaryOp}
@@ -8,16 +7,14 @@ use Rattle.id_value.specs.declared.BinaryOp.{BinaryOp}
 use Rattle.id_table.specs.declared.row.Row.{Row}
 use Rattle.id_table.specs.declared.row.Stand.{Stand}
 use Rattle.id_table.specs.declared.row.Node.{Node}
-use Rattle.id_table.specs.declared.row.Node.TheVariants.{Head, Param, Unary, Binary, Block, Binding, Def, LoopHead}
-use Rattle.id_table.specs.declared.row.Node.TheVariants.{Variable, Entries, Switches}
+use Rattle.id_table.specs.declared.row.Node.TheVariants.{Head, Param, Unary, Binary, Block, Binding, Def, LoopHead, Variable, Entries, Switches}
 use Rattle.id_table.specs.declared.row.Node.TheVariants.{Array, Body, Carried, Fetch, Store, Within}
 use Rattle.id_table.specs.Rows.{at, top}
 use Rattle.id_table.specs.Tables.{HasPart, can_be_on, has_statements, is_expression, is_param, is_statement, is_top}
 use Rattle.id_table.specs.Turns.{in_block, IsStatement, Root, TurnedIn, Turns}
 use Rattle.id_table.proofs.BlockLemmas.{around-true, in_block-before, in_block-behind, in_block-here, in_block-more}
 use Rattle.id_table.proofs.HasLemmas.{row_in}
-use Rattle.id_table.proofs.RowLemmas.{Fits, Fits-block, Fits-simple, PartIs, RowsAre, RowIs-fits, RowsAre-both}
-use Rattle.id_table.proofs.RowLemmas.{RowsAre-none, RowsAre-suc, StandsHere, is_plain}
+use Rattle.id_table.proofs.RowLemmas.{Fits, Fits-block, Fits-simple, PartIs, RowsAre, RowIs-fits, RowsAre-both, RowsAre-none, RowsAre-suc, StandsHere, is_plain}
 use Rattle.id_table.proofs.RowLemmas.{expression_plain, is_simple}
 
 -- an expression is no statement
@@ -49,8 +46,7 @@ pub record AreExpression (F : List Row) (s : Stand) (lo hi : ℕ) : Type 0 where
   pub first : (at F end).first ≡ lo
   pub region : (at F end).region ≡ s.region
   pub block : (at F end).block ≡ s.block
-  pub turned : TurnedIn F s.region end → (i : ℕ) → lo ≤ i → i < hi → can_be_on (at F i).node ≡ true
-      → TurnedIn F (at F i).region i
+  pub turned : TurnedIn F s.region end → (i : ℕ) → lo ≤ i → i < hi → can_be_on (at F i).node ≡ true → TurnedIn F (at F i).region i
   pub held : (i : ℕ) → lo ≤ i → i < hi → is_statement (at F i).node ≡ true → in_block F i hi ≡ true
 
 -- the statement at the row m turns the row a on: the expression of a binding, or itself where it is a store
@@ -76,8 +72,7 @@ pub record AreStatement (F : List Row) (s : Stand) (lo n : ℕ) : Type 0 where
   pub value : ℕ
   pub statement : StatementTurns F n value
   pub stands : StandsHere F s n
-  pub turned : TurnedIn F s.region value → (i : ℕ) → lo ≤ i → i < suc n → can_be_on (at F i).node ≡ true
-      → TurnedIn F (at F i).region i
+  pub turned : TurnedIn F s.region value → (i : ℕ) → lo ≤ i → i < suc n → can_be_on (at F i).node ≡ true → TurnedIn F (at F i).region i
   pub held : (i : ℕ) → lo ≤ i → i < n → is_statement (at F i).node ≡ true → in_block F i (suc n) ≡ true
 
 -- the rows from lo up to hi are those of statements
@@ -105,8 +100,7 @@ module _ (F : List Row) where
   turns_in_block n b m a e i (by_store f) = Turns.stored e i f
 
   -- and what the statements of a loop's body turn on are roots of the body
-  pub root_in_body : (n m a : ℕ) → n < length F → (at F n).node ≡ Body → IsStatement F n m → StatementTurns F m a
-      → Root F (at F n).region a
+  pub root_in_body : (n m a : ℕ) → n < length F → (at F n).node ≡ Body → IsStatement F n m → StatementTurns F m a → Root F (at F n).region a
   root_in_body n m a l e i (by_binding f) = Root.of_statement l e i f
   root_in_body n m a l e i (by_store f) = Root.of_store l e i f
 
@@ -122,24 +116,15 @@ module _ (F : List Row) (s : Stand) where
         stands = (h.block, h.region);
       })
 
-  pub PartIs-wider : (lo mid below above a : ℕ) → lo ≤ below → above ≤ mid → PartIs F s below above a
-      → PartIs F s lo mid a
+  pub PartIs-wider : (lo mid below above a : ℕ) → lo ≤ below → above ≤ mid → PartIs F s below above a → PartIs F s lo mid a
   PartIs-wider lo mid below above a l m h =
-      record {
-        low = omega (arith, h.low);
-        before = omega (arith, h.before);
-        expression = h.expression;
-        stands =
-            h.stands;
-      }
+      record { low = omega (arith, h.low); before = omega (arith, h.before); expression = h.expression; stands = h.stands }
 
   -- an expression that fits the rows before it
-  pub expression-fits : (p lo i v : ℕ) (n : Node) → at F i ≡ row_in s p lo v n → lo ≤ i → RowsAre F s lo i
-      → is_plain n ≡ true → Fits F s lo i v n → is_expression n ≡ true → is_statement n ≡ false
-      → (TurnedIn F s.region i → (j : ℕ) → lo ≤ j → j < i → can_be_on (at F j).node ≡ true
-      → TurnedIn F (at F j).region j)
-      → ((j : ℕ) → lo ≤ j → j < i → is_statement (at F j).node ≡ true → in_block F j (suc i) ≡ true)
-      → AreExpression F s lo (suc i)
+  pub expression-fits : (p lo i v : ℕ) (n : Node) → at F i ≡ row_in s p lo v n → lo ≤ i → RowsAre F s lo i → is_plain n ≡ true → Fits F s lo i v n
+      → is_expression n ≡ true → is_statement n ≡ false
+      → (TurnedIn F s.region i → (j : ℕ) → lo ≤ j → j < i → can_be_on (at F j).node ≡ true → TurnedIn F (at F j).region j)
+      → ((j : ℕ) → lo ≤ j → j < i → is_statement (at F j).node ≡ true → in_block F j (suc i) ≡ true) → AreExpression F s lo (suc i)
   expression-fits p lo i v n e l rows inner fits expression unbound turned held =
       let region : (at F i).region ≡ s.region = ap (λ (r : Row). r.region) e in
       record {
@@ -153,53 +138,46 @@ module _ (F : List Row) (s : Stand) where
         block = ap (λ (r : Row). r.block) e;
         turned = λ t j b c g. elim (cases_lt j i) [
           | inl f ↦ turned t j b f g
-          | inr f ↦ let q : i ≡ j =
-              omega arith in subst (λ k. TurnedIn F (at F k).region k) q (subst (λ r. TurnedIn F r i) (sym region) t)
+          | inr f ↦ let q : i ≡ j = omega arith in subst (λ k. TurnedIn F (at F k).region k) q (subst (λ r. TurnedIn F r i) (sym region) t)
         ];
         held = λ j b c g. elim (cases_lt j i) [
           | inl f ↦ held j b f g
           | inr f ↦ let q : j ≡ i = omega arith in
-              absurd (false≢true (sym unbound ∙ sym (ap (λ (r : Row). is_statement r.node) e)
-              ∙ sym (ap (λ k. is_statement (at F k).node) q) ∙ g))
+              absurd (false≢true (sym unbound ∙ sym (ap (λ (r : Row). is_statement r.node) e) ∙ sym (ap (λ k. is_statement (at F k).node) q) ∙ g))
         ];
       }
 
   -- one that is simple, behind its parts
-  simple : (p lo i : ℕ) (n : Node) → at F i ≡ row_in s p lo i n → lo ≤ i → RowsAre F s lo i → is_simple n ≡ true
-      → is_expression n ≡ true → ((a : ℕ) → HasPart n a → PartIs F s lo i a)
-      → (TurnedIn F s.region i → (j : ℕ) → lo ≤ j → j < i → can_be_on (at F j).node ≡ true
-      → TurnedIn F (at F j).region j)
-      → ((j : ℕ) → lo ≤ j → j < i → is_statement (at F j).node ≡ true → in_block F j (suc i) ≡ true)
-      → AreExpression F s lo (suc i)
+  simple : (p lo i : ℕ) (n : Node) → at F i ≡ row_in s p lo i n → lo ≤ i → RowsAre F s lo i → is_simple n ≡ true → is_expression n ≡ true
+      → ((a : ℕ) → HasPart n a → PartIs F s lo i a)
+      → (TurnedIn F s.region i → (j : ℕ) → lo ≤ j → j < i → can_be_on (at F j).node ≡ true → TurnedIn F (at F j).region j)
+      → ((j : ℕ) → lo ≤ j → j < i → is_statement (at F j).node ≡ true → in_block F j (suc i) ≡ true) → AreExpression F s lo (suc i)
   simple p lo i n e l rows plain expression parts turned held =
       let fits = Fits-simple F s p lo i n e plain (λ h. absurd (false≢true (sym (no_top n expression) ∙ h))) parts in
-      expression-fits p lo i i n e l rows (expression_plain n expression) fits expression (no_statement n expression)
-      turned held
+      expression-fits p lo i i n e l rows (expression_plain n expression) fits expression (no_statement n expression) turned held
 
   -- an expression without parts
-  pub are-leaf : (p lo : ℕ) (n : Node) → at F lo ≡ row_in s p lo lo n → is_simple n ≡ true → is_expression n ≡ true
-      → ((a : ℕ) → HasPart n a → ⊥) → AreExpression F s lo (suc lo)
+  pub are-leaf : (p lo : ℕ) (n : Node) → at F lo ≡ row_in s p lo lo n → is_simple n ≡ true → is_expression n ≡ true → ((a : ℕ) → HasPart n a → ⊥)
+      → AreExpression F s lo (suc lo)
   are-leaf p lo n e plain expression alone =
-      simple p lo lo n e (omega arith) (RowsAre-none F s lo) plain expression (λ a q. absurd (alone a q))
-      (λ t k f g _. absurd (omega arith))
+      simple p lo lo n e (omega arith) (RowsAre-none F s lo) plain expression (λ a q. absurd (alone a q)) (λ t k f g _. absurd (omega arith))
       (λ k f g _. absurd (omega arith))
 
   -- an operator behind its operand
-  pub are-unary : (p lo b i : ℕ) (o : UnaryOp) → at F i ≡ row_in s p lo i (Unary o b) → i < length F → suc b ≡ i
-      → AreExpression F s lo i → AreExpression F s lo (suc i)
+  pub are-unary : (p lo b i : ℕ) (o : UnaryOp) → at F i ≡ row_in s p lo i (Unary o b) → i < length F → suc b ≡ i → AreExpression F s lo i
+      → AreExpression F s lo (suc i)
   are-unary p lo b i o e within q h =
       let part = part_of lo i b h q in
       let same : b ≡ h.end = omega (arith, h.ends) in
       let node : (at F i).node ≡ Unary o b = ap (λ (r : Row). r.node) e in
-      simple p lo i (Unary o b) e (omega (arith, h.low, h.ends)) h.rows refl refl
-      (λ a g. subst (PartIs F s lo i) (sym g) part)
+      simple p lo i (Unary o b) e (omega (arith, h.low, h.ends)) h.rows refl refl (λ a g. subst (PartIs F s lo i) (sym g) part)
       (λ t j c d g. h.turned (subst (TurnedIn F s.region) same (TurnedIn.part t within (Turns.operand node))) j c d g)
       (λ j c d g. in_block-more F j i (suc i) (omega arith) (h.held j c d g))
 
   -- an expression behind its two parts, which it turns on
-  are-two : (p lo mid a b i : ℕ) (n : Node) → at F i ≡ row_in s p lo i n → i < length F → suc a ≡ mid → suc b ≡ i
-      → is_simple n ≡ true → is_expression n ≡ true → ((c : ℕ) → HasPart n c → (c ≡ a) ⊎ (c ≡ b)) → Turns F i a
-      → Turns F i b → AreExpression F s lo mid → AreExpression F s mid i → AreExpression F s lo (suc i)
+  are-two : (p lo mid a b i : ℕ) (n : Node) → at F i ≡ row_in s p lo i n → i < length F → suc a ≡ mid → suc b ≡ i → is_simple n ≡ true
+      → is_expression n ≡ true → ((c : ℕ) → HasPart n c → (c ≡ a) ⊎ (c ≡ b)) → Turns F i a → Turns F i b
+      → AreExpression F s lo mid → AreExpression F s mid i → AreExpression F s lo (suc i)
   are-two p lo mid a b i n e within q w plain expression two left_on right_on h g =
       let left = part_of lo mid a h q in
       let right = part_of mid i b g w in
@@ -222,15 +200,15 @@ module _ (F : List Row) (s : Stand) where
       ])
 
   -- an operator behind its operands
-  pub are-binary : (p lo mid a b i : ℕ) (o : BinaryOp) → at F i ≡ row_in s p lo i (Binary o a b) → i < length F
-      → suc a ≡ mid → suc b ≡ i → AreExpression F s lo mid → AreExpression F s mid i → AreExpression F s lo (suc i)
+  pub are-binary : (p lo mid a b i : ℕ) (o : BinaryOp) → at F i ≡ row_in s p lo i (Binary o a b) → i < length F → suc a ≡ mid → suc b ≡ i
+      → AreExpression F s lo mid → AreExpression F s mid i → AreExpression F s lo (suc i)
   are-binary p lo mid a b i o e within q w h g =
       let node : (at F i).node ≡ Binary o a b = ap (λ (r : Row). r.node) e in
       are-two p lo mid a b i (Binary o a b) e within q w refl refl (λ c k. k) (Turns.left node) (Turns.right node) h g
 
   -- an array behind its bounds
-  pub are-array : (nested : Bool) (p lo mid a b i : ℕ) → at F i ≡ row_in s p lo i (Array nested a b) → i < length F
-      → suc a ≡ mid → suc b ≡ i → AreExpression F s lo mid → AreExpression F s mid i → AreExpression F s lo (suc i)
+  pub are-array : (nested : Bool) (p lo mid a b i : ℕ) → at F i ≡ row_in s p lo i (Array nested a b) → i < length F → suc a ≡ mid → suc b ≡ i
+      → AreExpression F s lo mid → AreExpression F s mid i → AreExpression F s lo (suc i)
   are-array nested p lo mid a b i e within q w h g =
       let node : (at F i).node ≡ Array nested a b = ap (λ (r : Row). r.node) e in
       are-two p lo mid a b i (Array nested a b) e within q w refl refl (λ c k. k) (Turns.low node) (Turns.high node) h g
@@ -240,12 +218,11 @@ module _ (F : List Row) (s : Stand) where
       → AreExpression F s lo mid → AreExpression F s mid i → AreExpression F s lo (suc i)
   are-fetch p lo mid a b i e within q w h g =
       let node : (at F i).node ≡ Fetch a b = ap (λ (r : Row). r.node) e in
-      are-two p lo mid a b i (Fetch a b) e within q w refl refl (λ c k. k) (Turns.fetched node) (Turns.fetch_index node)
-      h g
+      are-two p lo mid a b i (Fetch a b) e within q w refl refl (λ c k. k) (Turns.fetched node) (Turns.fetch_index node) h g
 
   -- a block behind its statements and its body
-  pub are-block : (p lo mid b i v : ℕ) → at F i ≡ row_in s p lo v (Block b) → i < length F → suc b ≡ i
-      → v ≡ (at F b).value → AreStatements F s lo mid → AreExpression F s mid i → AreExpression F s lo (suc i)
+  pub are-block : (p lo mid b i v : ℕ) → at F i ≡ row_in s p lo v (Block b) → i < length F → suc b ≡ i → v ≡ (at F b).value
+      → AreStatements F s lo mid → AreExpression F s mid i → AreExpression F s lo (suc i)
   are-block p lo mid b i v e within w same h g =
       let body = part_of mid i b g w in
       let m : mid ≤ i = omega (arith, g.low, g.ends) in
@@ -256,8 +233,7 @@ module _ (F : List Row) (s : Stand) where
       let first : (at F i).first ≡ lo = ap (λ (r : Row). r.first) e in
       let rows = RowsAre-both F s lo mid i l h.rows g.rows in
       expression-fits p lo i v (Block b) e (omega arith) rows refl
-      (Fits-block F s lo i b v same (PartIs-wider lo i mid i b l (omega arith) body)
-      (rows b (omega (arith, body.low)) body.before)
+      (Fits-block F s lo i b v same (PartIs-wider lo i mid i b l (omega arith) body) (rows b (omega (arith, body.low)) body.before)
       (λ c j d k free. elim (cases_lt c mid) [
         | inl f ↦ elim (h.held c j f k) [
           | inl z ↦ z
@@ -267,9 +243,7 @@ module _ (F : List Row) (s : Stand) where
       ])) refl refl
       (λ t j c d k. elim (cases_lt j mid) [
         | inl f ↦ let by = h.turned j c f k in
-            let right =
-            in_block-behind F by.row mid i m by.free (λ q u z. let x = (g.rows q u z).low in
-            omega (arith, by.before)) in
+            let right = in_block-behind F by.row mid i m by.free (λ q u z. let x = (g.rows q u z).low in omega (arith, by.before)) in
             by.turned (TurnedIn.part t within (turns_in_block F i b by.row by.value node (record {
               block = is;
               statement = turns_statement F by.row by.value by.statement;
@@ -281,16 +255,13 @@ module _ (F : List Row) (s : Stand) where
       (λ j c d k. in_block-here F j i is (omega arith) d)
 
   -- a binding behind its expression
-  pub are-binding : (p lo x a i : ℕ) → at F i ≡ row_in s p lo i (Binding x a) → suc a ≡ i → AreExpression F s lo i
-      → AreStatement F s lo i
+  pub are-binding : (p lo x a i : ℕ) → at F i ≡ row_in s p lo i (Binding x a) → suc a ≡ i → AreExpression F s lo i → AreStatement F s lo i
   are-binding p lo x a i e q h =
       let part = part_of lo i a h q in
       let le : lo ≤ i = omega (arith, h.low, h.ends) in
       let same : a ≡ h.end = omega (arith, h.ends) in
       let node : (at F i).node ≡ Binding x a = ap (λ (r : Row). r.node) e in
-      let fits =
-      Fits-simple F s p lo i (Binding x a) e refl (λ h. absurd (false≢true h))
-      (λ c w. subst (PartIs F s lo i) (sym w) part) in
+      let fits = Fits-simple F s p lo i (Binding x a) e refl (λ h. absurd (false≢true h)) (λ c w. subst (PartIs F s lo i) (sym w) part) in
       record {
         low = le;
         rows = RowsAre-suc F s lo i h.rows (RowIs-fits F s p lo i i (Binding x a) e le h.rows refl fits);
@@ -319,8 +290,7 @@ module _ (F : List Row) (s : Stand) where
             low = h.low;
             before = next;
             statement = h.statement;
-            free = in_block-behind F n (suc n) hi next (in_block-before F n (suc n) (omega arith)) (λ k u v. let z =
-                (g.rows k u v).low in omega arith);
+            free = in_block-behind F n (suc n) hi next (in_block-before F n (suc n) (omega arith)) (λ k u v. let z = (g.rows k u v).low in omega arith);
             turned = λ t. h.turned t j c f w;
           }
           | inr f ↦ let by = g.turned j f d w in record {
@@ -343,8 +313,7 @@ module _ (F : List Row) (s : Stand) where
       }
 
   -- a parameter before the others
-  pub are-param : (p hi x i : ℕ) (k : Kind) → s.region ≡ top s.block → at F i ≡ row_in s p i i (Param x k)
-      → AreParams F s (suc i) hi → AreParams F s i hi
+  pub are-param : (p hi x i : ℕ) (k : Kind) → s.region ≡ top s.block → at F i ≡ row_in s p i i (Param x k) → AreParams F s (suc i) hi → AreParams F s i hi
   are-param p hi x i k high e g =
       let rows = RowsAre-none F s i in
       let fits = Fits-simple F s p i i (Param x k) e refl (λ _. high) (λ a q. absurd q) in
@@ -353,8 +322,7 @@ module _ (F : List Row) (s : Stand) where
         low = omega (arith, g.low);
         rows = RowsAre-both F s i (suc i) hi (omega arith) (RowsAre-suc F s i i rows row) g.rows;
         param = λ j c d. elim (cases_lt j (suc i)) [
-          | inl f ↦ let z : j ≡ i =
-              omega arith in ap (λ l. is_param (at F l).node) z ∙ ap (λ (r : Row). is_param r.node) e
+          | inl f ↦ let z : j ≡ i = omega arith in ap (λ l. is_param (at F l).node) z ∙ ap (λ (r : Row). is_param r.node) e
           | inr f ↦ g.param j f d
         ];
         block = λ j c d. elim (cases_lt j (suc i)) [

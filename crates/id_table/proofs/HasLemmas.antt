@@ -1,22 +1,17 @@
 -- A table that has the rows of another at its beginning.
-use Rattle.std.proofs.Common.{◌≡◌, ◌<◌, ◌≤◌, ◌+◌, ℕ, suc, Bool, true, false, List, [], ◌∷◌, ◌++◌, length, refl, ◌∙◌}
-use Rattle.std.proofs.Common.{arith}
+use Rattle.std.proofs.Common.{◌≡◌, ◌<◌, ◌≤◌, ◌+◌, ℕ, suc, Bool, true, false, List, [], ◌∷◌, ◌++◌, length, refl, ◌∙◌, arith}
 use Rattle.std.proofs.lemmas.List.{get_or_append_left, get_or_push, length_push}
-use Rattle.id_grammar.specs.Tree.{Tree, literal, unary, binary, name, conditional, call, block, loop, for_loop, array}
-use Rattle.id_grammar.specs.Tree.{fetch, binding, next}
+use Rattle.id_grammar.specs.Tree.{Tree, literal, unary, binary, name, conditional, call, block, loop, for_loop, array, fetch, binding, next}
 use Rattle.id_grammar.specs.Tree.{store, param, define, none, more}
 use Rattle.id_table.specs.declared.row.Row.{Row}
 use Rattle.id_table.specs.declared.row.Stand.{Stand}
 use Rattle.id_table.specs.declared.row.Node.{Node}
 use Rattle.id_table.specs.declared.row.Node.TheVariants.{Head, Split, Enter, Arg, Start, Bounds, Carried, Within, Count}
-use Rattle.id_table.specs.declared.row.Node.TheVariants.{Variable, Switches, Turn, NextUse, Next, Body, Reset, Span}
-use Rattle.id_table.specs.declared.row.Node.TheVariants.{Address}
+use Rattle.id_table.specs.declared.row.Node.TheVariants.{Variable, Switches, Turn, NextUse, Next, Body, Reset, Span, Address}
 use Rattle.id_value.specs.declared.Kind.TheVariants as kind
 use Rattle.id_table.specs.Names.{number_of}
-use Rattle.id_table.specs.Rows.{Parts, add, add_arguments, add_entries, add_nexts, add_variables, arm, at}
-use Rattle.id_table.specs.Rows.{begin_counting, begin_for}
-use Rattle.id_table.specs.Rows.{begin_loop, carry, end_loop, enter_loop, in_top, last, naming, no_row, size, value_of}
-use Rattle.id_table.specs.Rows.{with_row}
+use Rattle.id_table.specs.Rows.{Parts, add, add_arguments, add_entries, add_nexts, add_variables, arm, at, begin_counting, begin_for}
+use Rattle.id_table.specs.Rows.{begin_loop, carry, end_loop, enter_loop, in_top, last, naming, no_row, size, value_of, with_row}
 
 -- a row in this stand, of this place, first row, value and node
 abbrev pub row_in : Stand → ℕ → ℕ → ℕ → Node → Row
@@ -44,8 +39,7 @@ tested s T t ss p = add (in_loop T) (begin_loop s T ss p) t
 
 -- up to its switches
 abbrev pub switched : Stand → Parts → Tree → Tree → ℕ → Parts
-switched s T t ss p =
-    let U = tested s T t ss p in with_row U (in_loop T) p (size (begin_loop s T ss p)) (Switches (last U))
+switched s T t ss p = let U = tested s T t ss p in with_row U (in_loop T) p (size (begin_loop s T ss p)) (Switches (last U))
 
 -- the side of the switches behind the predicate: the body, or what is behind it
 abbrev pub in_side : Stand → Parts → Tree → Tree → ℕ → Bool → Stand
@@ -107,8 +101,7 @@ for_stated s A x q ss p = add_nexts (for_side s A ss q p true) 3 (indexed s A x 
 
 -- up to the end of its body
 abbrev pub for_closed : Stand → Parts → List ℕ → ℕ → Tree → ℕ → Parts
-for_closed s A x q ss p =
-    with_row (for_stated s A x q ss p) (for_side s A ss q p true) p (last (indexed s A x q ss p)) Body
+for_closed s A x q ss p = with_row (for_stated s A x q ss p) (for_side s A ss q p true) p (last (indexed s A x q ss p)) Body
 
 -- up to its last expression
 abbrev pub for_left_by : Stand → Parts → List ℕ → ℕ → Tree → Tree → ℕ → Parts
@@ -120,8 +113,7 @@ used s T x p = with_row (naming T x) s p (size T) (NextUse (number_of T.names x)
 
 -- the parts with the rows of a `next` statement of the index i
 abbrev pub nexted : Stand → ℕ → Parts → List ℕ → Tree → ℕ → Parts
-nexted s i T x a p =
-    let U = add s (used s T x p) a in with_row U s p (size T) (Next (number_of T.names x) i (size T) (last U))
+nexted s i T x a p = let U = add s (used s T x p) a in with_row U s p (size T) (Next (number_of T.names x) i (size T) (last U))
 
 -- the parts of a store up to its address
 abbrev pub addressed : Stand → Parts → Tree → Tree → ℕ → Parts
@@ -180,16 +172,14 @@ module _ (F : List Row) where
       Has-enter s T p (Has-carry (in_loop T) (enter_loop s T p) q p
       (Has-entries (in_loop T) (carrying s T q p) ss p (Has-push E.rows _ (Has-push (within_for s T ss q p).rows _ h))))
 
-  pub Has-counting : (s : Stand) (T : Parts) (x : List ℕ) (q p : ℕ) → Has F (begin_counting s T x q p).rows
-      → Has F T.rows
+  pub Has-counting : (s : Stand) (T : Parts) (x : List ℕ) (q p : ℕ) → Has F (begin_counting s T x q p).rows → Has F T.rows
   Has-counting s T x q p h =
       let C = with_row T s p (size T) Count in
       let B = with_row C s p (size C) Turn in
       Has-push T.rows _ (Has-push C.rows _ (Has-push B.rows _ h))
 
   pub Has-end : (s o : Stand) (L : Parts) (p f g r : ℕ) → Has F (end_loop s o p f g r (last L) L).rows → Has F L.rows
-  Has-end s o L p f g r h =
-      Has-push L.rows _ (Has-push (reset o L p r).rows _ (Has-push (spanned s o L p r g).rows _ h))
+  Has-end s o L p f g r h = Has-push L.rows _ (Has-push (reset o L p r).rows _ (Has-push (spanned s o L p r g).rows _ h))
 
   mutual
     pub Has-add : (t : Tree) (s : Stand) (T : Parts) → Has F (add s T t).rows → Has F T.rows
@@ -203,8 +193,7 @@ module _ (F : List Row) where
         let S = with_row U s p (size T) (Split (last U)) in
         let X = add (arm s n true) S x in
         let Y = add (arm s n false) X y in
-        Has-add t s T
-        (Has-push U.rows _ (Has-add x (arm s n true) S (Has-add y (arm s n false) X (Has-push Y.rows _ h))))
+        Has-add t s T (Has-push U.rows _ (Has-add x (arm s n true) S (Has-add y (arm s n false) X (Has-push Y.rows _ h))))
     Has-add (call x a p) s T h =
         let E = entered s T x p in
         Has-push T.rows _ (Has-arguments a s p (size T) 0 E (Has-push (add_arguments s p (size T) 0 E a).rows _ h))
@@ -213,8 +202,7 @@ module _ (F : List Row) where
         let B = opened s T t a p in
         let L = left_by s T t a l p in
         let C = closed s T t a p in
-        let n = Has-add l (in_side s T t a p false) C
-        (Has-end s (in_side s T t a p false) L p (size T) (size T) (size C) h) in
+        let n = Has-add l (in_side s T t a p false) C (Has-end s (in_side s T t a p false) L p (size T) (size T) (size C) h) in
         let o = Has-nexts a (in_side s T t a p true) 0 B (Has-push (stated s T t a p).rows _ n) in
         let u = Has-push (tested s T t a p).rows _ (Has-push (switched s T t a p).rows _ o) in
         Has-begin s T a p (Has-add t (in_loop T) (begin_loop s T a p) u)
@@ -230,8 +218,7 @@ module _ (F : List Row) where
         let k = Has-nexts ss (for_side s A ss q p true) 3 I (Has-push N.rows _ n) in
         let w = Has-for s A ss q p (Has-counting (for_side s A ss q p true) W x q p k) in
         Has-add a s T (Has-add b s (add s T a) (Has-push (add s (add s T a) b).rows _ w))
-    Has-add (array nested a b p) s T h =
-        Has-add a s T (Has-add b s (add s T a) (Has-push (add s (add s T a) b).rows _ h))
+    Has-add (array nested a b p) s T h = Has-add a s T (Has-add b s (add s T a) (Has-push (add s (add s T a) b).rows _ h))
     Has-add (fetch a b p) s T h = Has-add a s T (Has-add b s (add s T a) (Has-push (add s (add s T a) b).rows _ h))
     Has-add (store t i e p) s T h =
         let U = add s T t in
@@ -247,8 +234,7 @@ module _ (F : List Row) where
     Has-add none s T h = h
     Has-add (more a b) s T h = Has-add a s T (Has-add b s (add s T a) h)
 
-    pub Has-arguments : (t : Tree) (s : Stand) (p e i : ℕ) (T : Parts) → Has F (add_arguments s p e i T t).rows
-        → Has F T.rows
+    pub Has-arguments : (t : Tree) (s : Stand) (p e i : ℕ) (T : Parts) → Has F (add_arguments s p e i T t).rows → Has F T.rows
     Has-arguments (more a b) s p e i T h =
         let U = add s T a in
         Has-add a s T (Has-push U.rows _ (Has-arguments b s p e (suc i) (argued s p e i U) h))

@@ -8,8 +8,7 @@ use Rattle.id_table.specs.declared.row.Stand.{Stand}
 use Rattle.id_table.specs.declared.row.Node.TheVariants.{Bounds, Carried, Within, Count, Turn, Index, Loop}
 use Rattle.id_table.specs.Rows.{arm, at, in_top}
 use Rattle.id_table.specs.Tables.{can_be_on, is_block, is_statement, is_within}
-use Rattle.id_table.specs.Loops.{AreBounds, AreCarried, HaveCarried, IsLoopOf, IsTurn, an_index, behind_count}
-use Rattle.id_table.specs.Loops.{bounds_row, flag, index_row}
+use Rattle.id_table.specs.Loops.{AreBounds, AreCarried, HaveCarried, IsLoopOf, IsTurn, an_index, behind_count, bounds_row, flag, index_row}
 use Rattle.id_table.specs.Loops.{with_bounds}
 use Rattle.id_table.specs.Turns.{TurnedIn, Turns}
 use Rattle.id_table.proofs.BlockLemmas.{in_block-more}
@@ -20,8 +19,7 @@ use Rattle.id_table.proofs.LoopRowsLemmas.{AreBefore, AreTest, IsMark, LoopRows,
 use Rattle.id_table.proofs.LoopLemmas.{is_loop_of, loop_node, single}
 
 -- the rows of the bounds of an index end at the row hi before the `Start` at lo; the entries of what is carried on are
--- behind the head; behind the entries at e stands what is in the place of a predicate, and behind the switches at w
--- what
+-- behind the head; behind the entries at e stands what is in the place of a predicate, and behind the switches at w what
 -- counts, the `Turn`, and the index, which has the place q
 pub record IndexRows (F : List Row) (s : Stand) (p q x from mid hi lo a b e w : ℕ) : Type 0 where
   pub low : AreExpression F s from mid
@@ -31,19 +29,15 @@ pub record IndexRows (F : List Row) (s : Stand) (p q x from mid hi lo a b e w : 
   pub bounds : at F hi ≡ row_in s p from hi (Bounds a b)
   pub behind : suc hi ≡ lo
   pub entry : at F (suc (suc lo)) ≡ row_in (in_top (suc lo)) q (suc (suc lo)) (suc (suc lo)) (Carried kind.Int)
-  pub bound : at F (suc (suc (suc lo)))
-      ≡ row_in (in_top (suc lo)) p (suc (suc (suc lo))) (suc (suc (suc lo))) (Carried kind.Int)
-  pub flag_row : at F (suc (suc (suc (suc lo))))
-      ≡ row_in (in_top (suc lo)) p (suc (suc (suc (suc lo)))) (suc (suc (suc (suc lo)))) (Carried kind.Bool)
+  pub bound : at F (suc (suc (suc lo))) ≡ row_in (in_top (suc lo)) p (suc (suc (suc lo))) (suc (suc (suc lo))) (Carried kind.Int)
+  pub flag_row : at F (suc (suc (suc (suc lo)))) ≡ row_in (in_top (suc lo)) p (suc (suc (suc (suc lo)))) (suc (suc (suc (suc lo)))) (Carried kind.Bool)
   pub within : at F (suc e) ≡ row_in (in_top (suc lo)) p (suc e) (suc lo + 3) (Within (suc lo + 3))
   pub before_body : suc (suc e) ≡ w
   pub count : at F (suc w) ≡ row_in (arm (in_top (suc lo)) w true) p (suc w) (suc w) Count
   pub turn : at F (suc (suc w)) ≡ row_in (arm (in_top (suc lo)) w true) p (suc (suc w)) (suc (suc w)) Turn
-  pub index : at F (suc (suc (suc w))) ≡ row_in (arm (in_top (suc lo)) w true) q (suc (suc (suc w))) (suc (suc (suc w)))
-      (Index x)
+  pub index : at F (suc (suc (suc w))) ≡ row_in (arm (in_top (suc lo)) w true) q (suc (suc (suc w))) (suc (suc (suc w))) (Index x)
 
-module _ (F : List Row) (s : Stand) (p q x from mid hi lo a b e w d l n : ℕ)
-    (r : IndexRows F s p q x from mid hi lo a b e w)
+module _ (F : List Row) (s : Stand) (p q x from mid hi lo a b e w d l n : ℕ) (r : IndexRows F s p q x from mid hi lo a b e w)
     (z : LoopRows F s p from lo 3 e (suc e) w (suc (suc w)) (suc (suc (suc (suc w)))) d l n) where
   abbrev loop_of : IsLoopOf F n (suc lo)
   loop_of = is_loop_of F s p from lo 3 e (suc e) w (suc (suc w)) (suc (suc (suc (suc w)))) d l n z
@@ -132,13 +126,9 @@ module _ (F : List Row) (s : Stand) (p q x from mid hi lo a b e w d l n : ℕ)
         rows = bounds_rows;
         from = with_bounds (omega (arith, r.behind)) are_bounds;
         turned = λ on i c f k. elim (cases_lt i mid) [
-          | inl g ↦ r.low.turned
-              (subst (TurnedIn F s.region) (sym low_end)
-              (TurnedIn.part on z.within (Turns.index_low node_of_loop node))) i c g k
+          | inl g ↦ r.low.turned (subst (TurnedIn F s.region) (sym low_end) (TurnedIn.part on z.within (Turns.index_low node_of_loop node))) i c g k
           | inr g ↦ elim (cases_lt i hi) [
-            | inl m ↦ r.high.turned
-                (subst (TurnedIn F s.region) (sym high_end)
-                (TurnedIn.part on z.within (Turns.index_high node_of_loop node))) i g m k
+            | inl m ↦ r.high.turned (subst (TurnedIn F s.region) (sym high_end) (TurnedIn.part on z.within (Turns.index_high node_of_loop node))) i g m k
             | inr m ↦ let y : hi ≡ i = omega (arith, r.behind) in
                 absurd (false≢true (sym (ap can_be_on bounds_node) ∙ ap (λ j. can_be_on (at F j).node) y ∙ k))
           ]
@@ -154,8 +144,8 @@ module _ (F : List Row) (s : Stand) (p q x from mid hi lo a b e w d l n : ℕ)
       }
 
   -- the entry of something that is carried on
-  carried_mark : (i place : ℕ) (k : Kind) → at F i ≡ row_in (in_top (suc lo)) place i i (Carried k) → suc lo < i
-      → i ≤ suc lo + 3 → IsMark F (in_top (suc lo)) (suc lo) e w (suc (suc w)) d n i
+  carried_mark : (i place : ℕ) (k : Kind) → at F i ≡ row_in (in_top (suc lo)) place i i (Carried k) → suc lo < i → i ≤ suc lo + 3
+      → IsMark F (in_top (suc lo)) (suc lo) e w (suc (suc w)) d n i
   carried_mark i place k row c f = record {
     place = place;
     value = i;
@@ -169,8 +159,7 @@ module _ (F : List Row) (s : Stand) (p q x from mid hi lo a b e w d l n : ℕ)
   carried_rows : (i : ℕ) → suc lo < i → i ≤ suc lo + 3 → IsMark F (in_top (suc lo)) (suc lo) e w (suc (suc w)) d n i
   carried_rows i c f = elim (cases_lt (suc (suc lo)) i) [
     | inr g ↦ let y : suc (suc lo) ≡ i = omega arith in
-        subst (IsMark F (in_top (suc lo)) (suc lo) e w (suc (suc w)) d n) y
-        (carried_mark (suc (suc lo)) q kind.Int r.entry (omega arith) (omega arith))
+        subst (IsMark F (in_top (suc lo)) (suc lo) e w (suc (suc w)) d n) y (carried_mark (suc (suc lo)) q kind.Int r.entry (omega arith) (omega arith))
     | inl g ↦ elim (cases_lt (suc (suc (suc lo))) i) [
       | inr m ↦ let y : suc (suc (suc lo)) ≡ i = omega arith in
           subst (IsMark F (in_top (suc lo)) (suc lo) e w (suc (suc w)) d n) y
@@ -186,8 +175,7 @@ module _ (F : List Row) (s : Stand) (p q x from mid hi lo a b e w d l n : ℕ)
       let one : suc lo + 1 ≡ suc (suc lo) = omega arith in
       let two : suc lo + 2 ≡ suc (suc (suc lo)) = omega arith in
       let three : suc lo + 3 ≡ suc (suc (suc (suc lo))) = omega arith in
-      an_index (ap (λ k. (at F k).node) one ∙ ap (λ (k : Row). k.node) r.entry) (ap (λ k. (at F k).node) two
-      ∙ ap (λ (k : Row). k.node) r.bound)
+      an_index (ap (λ k. (at F k).node) one ∙ ap (λ (k : Row). k.node) r.entry) (ap (λ k. (at F k).node) two ∙ ap (λ (k : Row). k.node) r.bound)
       (ap (λ k. (at F k).node) three ∙ ap (λ (k : Row). k.node) r.flag_row)
 
   -- what is in the place of a predicate
@@ -207,8 +195,7 @@ module _ (F : List Row) (s : Stand) (p q x from mid hi lo a b e w d l n : ℕ)
 
   within_row : RowIs F (in_top (suc lo)) (suc lo) (suc e) (at F (suc e))
   within_row =
-      single F s p from lo 3 e (suc e) w (suc (suc w)) (suc (suc (suc (suc w)))) d l n z (in_top (suc lo)) p (suc e)
-      (suc lo + 3) (Within (suc lo + 3)) refl
+      single F s p from lo 3 e (suc e) w (suc (suc w)) (suc (suc (suc (suc w)))) d l n z (in_top (suc lo)) p (suc e) (suc lo + 3) (Within (suc lo + 3)) refl
       r.within (omega (arith, z.many)) (omega (arith, inside, r.before_body)) refl within_fits
 
   are_test : AreTest F (suc lo) e (suc e) w 3
@@ -219,16 +206,12 @@ module _ (F : List Row) (s : Stand) (p q x from mid hi lo a b e w d l n : ℕ)
         low = omega arith;
         first = ap (λ (k : Row). k.first) r.within;
         stands = (ap (λ (k : Row). k.block) r.within, ap (λ (k : Row). k.region) r.within);
-        rows = λ i c f. let y : suc e ≡ i =
-            same i c f in subst (λ k. RowIs F (in_top (suc lo)) (suc lo) k (at F k)) y within_row;
-        behind = λ i c f. let y : suc e ≡ i =
-            same i c f in omega (arith, y, ap (λ k. (at F k).first) y, ap (λ (k : Row). k.first) r.within);
+        rows = λ i c f. let y : suc e ≡ i = same i c f in subst (λ k. RowIs F (in_top (suc lo)) (suc lo) k (at F k)) y within_row;
+        behind = λ i c f. let y : suc e ≡ i = same i c f in omega (arith, y, ap (λ k. (at F k).first) y, ap (λ (k : Row). k.first) r.within);
         own = λ i c f _ _. let y : suc e ≡ i = same i c f in
             (ap (λ k. is_within (at F k).node) (sym y) ∙ ap is_within node, omega (arith, y, r.before_body));
-        turned = λ i c f k. absurd
-            (false≢true (sym (ap can_be_on node) ∙ ap (λ j. can_be_on (at F j).node) (same i c f) ∙ k));
-        held = λ i c f k. absurd
-            (false≢true (sym (ap is_statement node) ∙ ap (λ j. is_statement (at F j).node) (same i c f) ∙ k));
+        turned = λ i c f k. absurd (false≢true (sym (ap can_be_on node) ∙ ap (λ j. can_be_on (at F j).node) (same i c f) ∙ k));
+        held = λ i c f k. absurd (false≢true (sym (ap is_statement node) ∙ ap (λ j. is_statement (at F j).node) (same i c f) ∙ k));
       }
     where
       same : (i : ℕ) → e < i → i < w → suc e ≡ i
@@ -238,8 +221,7 @@ module _ (F : List Row) (s : Stand) (p q x from mid hi lo a b e w d l n : ℕ)
   abbrev Begin : ℕ → Type 0
   Begin i = IsMark F (arm (in_top (suc lo)) w true) (suc lo) e w (suc (suc w)) d n i
 
-  index_fits : Fits F (arm (in_top (suc lo)) w true) (suc (suc (suc w))) (suc (suc (suc w))) (suc (suc (suc w)))
-      (Index x)
+  index_fits : Fits F (arm (in_top (suc lo)) w true) (suc (suc (suc w))) (suc (suc (suc w))) (suc (suc (suc w))) (Index x)
   index_fits = record {
     formed = λ c h. absurd h;
     part_stands = λ c h. absurd h;
@@ -262,8 +244,7 @@ module _ (F : List Row) (s : Stand) (p q x from mid hi lo a b e w d l n : ℕ)
       row = r.count;
       mark = refl;
       stands = omega arith;
-      fits = Fits-simple F (arm (in_top (suc lo)) w true) p (suc w) (suc w) Count r.count refl
-          (λ h. absurd (false≢true h)) (λ a h. absurd h);
+      fits = Fits-simple F (arm (in_top (suc lo)) w true) p (suc w) (suc w) Count r.count refl (λ h. absurd (false≢true h)) (λ a h. absurd h);
     })
     | inl g ↦ elim (cases_lt (suc (suc w)) i) [
       | inr m ↦ let y : suc (suc w) ≡ i = omega arith in subst Begin y (record {
@@ -273,8 +254,7 @@ module _ (F : List Row) (s : Stand) (p q x from mid hi lo a b e w d l n : ℕ)
         row = r.turn;
         mark = refl;
         stands = refl;
-        fits = Fits-simple F (arm (in_top (suc lo)) w true) p (suc (suc w)) (suc (suc w)) Turn r.turn refl
-            (λ h. absurd (false≢true h)) (λ a h. absurd h);
+        fits = Fits-simple F (arm (in_top (suc lo)) w true) p (suc (suc w)) (suc (suc w)) Turn r.turn refl (λ h. absurd (false≢true h)) (λ a h. absurd h);
       })
       | inl m ↦ let y : suc (suc (suc w)) ≡ i = omega arith in subst Begin y (record {
         place = q;
@@ -303,8 +283,8 @@ module _ (F : List Row) (s : Stand) (p q x from mid hi lo a b e w d l n : ℕ)
       let named : suc (suc (suc w)) ≡ index_row w = omega arith in
       let own = sym (ap (λ (k : Row). k.place) z.row) in
       record {
-        index = λ _. ap (λ k. (at F k).place) one ∙ ap (λ (k : Row). k.place) r.entry
-            ∙ sym (ap (λ (k : Row). k.place) r.index) ∙ ap (λ k. (at F k).place) named;
+        index = λ _. ap (λ k. (at F k).place) one ∙ ap (λ (k : Row). k.place) r.entry ∙ sym (ap (λ (k : Row). k.place) r.index)
+            ∙ ap (λ k. (at F k).place) named;
         bound = λ _. ap (λ k. (at F k).place) two ∙ ap (λ (k : Row). k.place) r.bound ∙ own;
         flag = λ _. ap (λ k. (at F k).place) three ∙ ap (λ (k : Row). k.place) r.flag_row ∙ own;
         within = λ _ i c. let y : i ≡ suc e = omega (arith, r.before_body) in

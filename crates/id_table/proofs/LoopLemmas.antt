@@ -24,8 +24,7 @@ use Rattle.id_table.proofs.ExpressionLemmas.{AreExpression, expression-fits, par
 use Rattle.id_table.proofs.NextLemmas.{VariableAt, no_inner, no_part}
 use Rattle.id_table.proofs.LoopRowsLemmas.{IsMark, LoopRows, OwnRows, stands-next, stands-none, stands-test}
 
-module _ (F : List Row) (s : Stand) (p from lo more e t w turn stated d l n : ℕ)
-    (b : LoopRows F s p from lo more e t w turn stated d l n) where
+module _ (F : List Row) (s : Stand) (p from lo more e t w turn stated d l n : ℕ) (b : LoopRows F s p from lo more e t w turn stated d l n) where
   entries_low : suc lo + more < e
   entries_low = omega (arith, b.many)
 
@@ -74,18 +73,15 @@ module _ (F : List Row) (s : Stand) (p from lo more e t w turn stated d l n : �
   }
 
   -- a row of the loop's block that fits those from its first row on
-  own_row : (q : Stand) (place f i v : ℕ) (m : Node) → q.block ≡ suc lo → at F i ≡ row_in q place f v m → suc lo ≤ f
-      → f ≤ i → i < n → ((j : ℕ) → f ≤ j → j < i → (f ≤ (at F j).first) × StandsWithin F q j) → is_inner m ≡ true
-      → Fits F q f i v m → RowIs F q (suc lo) i (at F i)
+  own_row : (q : Stand) (place f i v : ℕ) (m : Node) → q.block ≡ suc lo → at F i ≡ row_in q place f v m → suc lo ≤ f → f ≤ i → i < n
+      → ((j : ℕ) → f ≤ j → j < i → (f ≤ (at F j).first) × StandsWithin F q j) → is_inner m ≡ true → Fits F q f i v m → RowIs F q (suc lo) i (at F i)
   own_row q place f i v m z x g k less rows inner fits =
-      RowIs-row F q place (suc lo) f i v m x g k rows
-      (inr (subst (HeadIn F (suc lo) i) (sym z) (head_in (suc lo) i (omega arith) (omega arith) less))) inner fits
+      RowIs-row F q place (suc lo) f i v m x g k rows (inr (subst (HeadIn F (suc lo) i) (sym z) (head_in (suc lo) i (omega arith) (omega arith) less))) inner fits
 
   -- one without parts
-  pub single : (q : Stand) (place i v : ℕ) (m : Node) → q.block ≡ suc lo → at F i ≡ row_in q place i v m → suc lo ≤ i
-      → i < n → is_inner m ≡ true → Fits F q i i v m → RowIs F q (suc lo) i (at F i)
-  single q place i v m z x g k inner fits =
-      own_row q place i i v m z x g (omega arith) k (λ j b c. absurd (omega arith)) inner fits
+  pub single : (q : Stand) (place i v : ℕ) (m : Node) → q.block ≡ suc lo → at F i ≡ row_in q place i v m → suc lo ≤ i → i < n → is_inner m ≡ true
+      → Fits F q i i v m → RowIs F q (suc lo) i (at F i)
+  single q place i v m z x g k inner fits = own_row q place i i v m z x g (omega arith) k (λ j b c. absurd (omega arith)) inner fits
 
   module _ (own : OwnRows F s p from lo more e t w turn stated d n) where
     abbrev Mark : Stand → ℕ → Type 0
@@ -97,13 +93,11 @@ module _ (F : List Row) (s : Stand) (p from lo more e t w turn stated d l n : �
         (subst (Lies F s.region) (sym (ap (λ (r : Row). r.region) b.start)) Lies.here)
 
     lies_side : (side : Bool) → Lies F (top (suc lo)) (arm_at w side)
-    lies_side side =
-        Lies.in_side (omega (arith, body_low, last_low, before_loop, b.within)) (ap is_switches switches_node)
+    lies_side side = Lies.in_side (omega (arith, body_low, last_low, before_loop, b.within)) (ap is_switches switches_node)
         (subst (Lies F (top (suc lo))) (sym (ap (λ (r : Row). r.region) b.switches)) Lies.here)
 
     -- a row whose own row is known stands right in its stand
-    stands_of : (k v q f : ℕ) (u : Stand) (m : Node) → at F k ≡ row_in u q f v m
-        → ((at F k).block ≡ u.block) × ((at F k).region ≡ u.region)
+    stands_of : (k v q f : ℕ) (u : Stand) (m : Node) → at F k ≡ row_in u q f v m → ((at F k).block ≡ u.block) × ((at F k).region ≡ u.region)
     stands_of k v q f u m x = (ap (λ (r : Row). r.block) x, ap (λ (r : Row). r.region) x)
 
     lies_in : (k v q f : ℕ) (u : Stand) (m : Node) → at F k ≡ row_in u q f v m → Lies F u.region (at F k).region
@@ -119,9 +113,7 @@ module _ (F : List Row) (s : Stand) (p from lo more e t w turn stated d l n : �
         record {
           turns = own.turns;
           turn = own.turn;
-          begins = λ i g k. let x =
-              own.turn_rows i g (omega (arith, b.begins)) in
-              stands_of i x.value x.place i (arm (in_top (suc lo)) w true) x.node x.row;
+          begins = λ i g k. let x = own.turn_rows i g (omega (arith, b.begins)) in stands_of i x.value x.place i (arm (in_top (suc lo)) w true) x.node x.row;
           node = ap (λ (r : Row). r.node) b.body_end;
           low = turn_before;
           first = ap (λ (r : Row). r.first) b.body_end ∙ one;
@@ -129,8 +121,7 @@ module _ (F : List Row) (s : Stand) (p from lo more e t w turn stated d l n : �
           region = ap (λ (r : Row). r.region) b.body_end;
           each = λ i c f. elim (cases_lt i d) [
             | inr g ↦ let z : d ≡ i = omega arith in
-                subst (λ k. Lies F (arm_at w true) (at F k).region) z
-                (lies_in d d p (suc turn) (arm (in_top (suc lo)) w true) Body b.body_end)
+                subst (λ k. Lies F (arm_at w true) (at F k).region) z (lies_in d d p (suc turn) (arm (in_top (suc lo)) w true) Body b.body_end)
             | inl g ↦ elim (cases_lt i stated) [
               | inl k ↦ lies_mark (arm (in_top (suc lo)) w true) i (own.turn_rows i c k)
               | inr k ↦ (b.body.rows i k g).lies
@@ -139,31 +130,22 @@ module _ (F : List Row) (s : Stand) (p from lo more e t w turn stated d l n : �
         }
 
     -- a row that stands in the loop's region stands where the loop does, or further in
-    top_row : (mid k : ℕ) → lo ≤ mid → suc lo ≤ k → k < n → RowIs F (in_top (suc lo)) mid k (at F k)
-        → RowIs F s lo k (at F k)
+    top_row : (mid k : ℕ) → lo ≤ mid → suc lo ≤ k → k < n → RowIs F (in_top (suc lo)) mid k (at F k) → RowIs F s lo k (at F k)
     top_row mid k m q u h =
-        RowIs-within F s (in_top (suc lo)) lo mid k (at F k) m (inr (head_in lo k (omega arith) q u)) lies_top
-        (λ x. inr (inl (x.0 ∙ ap top (sym x.1)))) h
+        RowIs-within F s (in_top (suc lo)) lo mid k (at F k) m (inr (head_in lo k (omega arith) q u)) lies_top (λ x. inr (inl (x.0 ∙ ap top (sym x.1)))) h
 
     -- and so does one in a side of its switches
-    side_row : (side : Bool) (mid k : ℕ) → lo ≤ mid → suc lo ≤ k → k < n → InSide w d n side k
-        → RowIs F (arm (in_top (suc lo)) w side) mid k (at F k) → RowIs F s lo k (at F k)
+    side_row : (side : Bool) (mid k : ℕ) → lo ≤ mid → suc lo ≤ k → k < n → InSide w d n side k → RowIs F (arm (in_top (suc lo)) w side) mid k (at F k)
+        → RowIs F s lo k (at F k)
     side_row side mid k m q u among h =
-        RowIs-within F s (arm (in_top (suc lo)) w side) lo mid k (at F k) m (inr (head_in lo k (omega arith) q u))
-        (Lies-both F lies_top (lies_side side))
+        RowIs-within F s (arm (in_top (suc lo)) w side) lo mid k (at F k) m (inr (head_in lo k (omega arith) q u)) (Lies-both F lies_top (lies_side side))
         (λ x. inr (inr (inr (record {
           side = side;
           body = d;
           row = n;
           turn = turn;
           carried = more;
-          loop = record {
-            switches = w;
-            last = l;
-            within = b.within;
-            node =
-                loop_node ∙ ap (λ g. Loop g w l) (sym x.1);
-          };
+          loop = record { switches = w; last = l; within = b.within; node = loop_node ∙ ap (λ g. Loop g w l) (sym x.1) };
           region = x.0;
           body_is = subst (λ g. IsBody F g w turn d more) (sym x.1) is_body;
           among = among;
@@ -186,8 +168,7 @@ module _ (F : List Row) (s : Stand) (p from lo more e t w turn stated d l n : �
         | inl k ↦ elim (cases_lt i e) [
           | inl m ↦ let v = variable_at i k m in stands_of i i v.0 i (in_top (suc lo)) Variable v.1
           | inr m ↦ let z : e ≡ i = omega arith in
-              subst (λ k. ((at F k).block ≡ suc lo) × ((at F k).region ≡ top (suc lo))) z
-              (stands_of e e p e (in_top (suc lo)) Entries b.entries)
+              subst (λ k. ((at F k).block ≡ suc lo) × ((at F k).region ≡ top (suc lo))) z (stands_of e e p e (in_top (suc lo)) Entries b.entries)
         ]
       ]
     ]
@@ -221,8 +202,7 @@ module _ (F : List Row) (s : Stand) (p from lo more e t w turn stated d l n : �
             | inl g ↦ elim (cases_lt i w) [
               | inl k ↦ (own.test.rows i g k).lies
               | inr k ↦ let z : w ≡ i = omega arith in
-                  subst (λ k. Lies F (top (suc lo)) (at F k).region) z
-                  (lies_in w w p (suc e) (in_top (suc lo)) (Switches t) b.switches)
+                  subst (λ k. Lies F (top (suc lo)) (at F k).region) z (lies_in w w p (suc e) (in_top (suc lo)) (Switches t) b.switches)
             ]
           ];
         }
@@ -240,12 +220,9 @@ module _ (F : List Row) (s : Stand) (p from lo more e t w turn stated d l n : �
           span = ap (λ k. (at F k).node) three ∙ ap (λ (r : Row). r.node) b.span;
           span_first = ap (λ k. (at F k).first) three ∙ ap (λ (r : Row). r.first) b.span;
           span_beside = record {
-            place = ap (λ k. (at F k).place) three ∙ ap (λ (r : Row). r.place) b.span
-                ∙ sym (ap (λ (r : Row). r.place) b.row);
-            block = ap (λ k. (at F k).block) three ∙ ap (λ (r : Row). r.block) b.span
-                ∙ sym (ap (λ (r : Row). r.block) b.row);
-            region = ap (λ k. (at F k).region) three ∙ ap (λ (r : Row). r.region) b.span
-                ∙ sym (ap (λ (r : Row). r.region) b.row);
+            place = ap (λ k. (at F k).place) three ∙ ap (λ (r : Row). r.place) b.span ∙ sym (ap (λ (r : Row). r.place) b.row);
+            block = ap (λ k. (at F k).block) three ∙ ap (λ (r : Row). r.block) b.span ∙ sym (ap (λ (r : Row). r.block) b.row);
+            region = ap (λ k. (at F k).region) three ∙ ap (λ (r : Row). r.region) b.span ∙ sym (ap (λ (r : Row). r.region) b.row);
           };
           ends = omega (arith, b.ends);
           block = ap (λ k. (at F k).block) (sym same) ∙ b.last.block;
@@ -253,17 +230,14 @@ module _ (F : List Row) (s : Stand) (p from lo more e t w turn stated d l n : �
           each = λ i c f. elim (cases_lt i (suc l)) [
             | inl g ↦ (b.last.rows i c g).lies
             | inr g ↦ let z : suc l ≡ i = omega (arith, b.ends) in
-                subst (λ k. Lies F (arm_at w false) (at F k).region) z
-                (lies_in (suc l) (suc l) p (suc d) (arm (in_top (suc lo)) w false) (Reset l) b.reset)
+                subst (λ k. Lies F (arm_at w false) (at F k).region) z (lies_in (suc l) (suc l) p (suc d) (arm (in_top (suc lo)) w false) (Reset l) b.reset)
           ];
         }
 
     -- what is true of each part of a loop's rows is true of each of them
-    by_part : (P : ℕ → Type 0) → P lo → P (suc lo) → ((i : ℕ) → suc lo < i → i ≤ suc lo + more → P i)
-        → ((i : ℕ) → suc lo + more < i → i < e → P i) → P e → ((i : ℕ) → e < i → i < w → P i) → P w
-        → ((i : ℕ) → w < i → i < stated → P i) → ((i : ℕ) → stated ≤ i → i < d → P i) → P d
-        → ((i : ℕ) → d < i → i < suc l → P i) → P (suc l) → P (suc (suc l))
-        → (i : ℕ) → lo ≤ i → i < n → P i
+    by_part : (P : ℕ → Type 0) → P lo → P (suc lo) → ((i : ℕ) → suc lo < i → i ≤ suc lo + more → P i) → ((i : ℕ) → suc lo + more < i → i < e → P i) → P e
+        → ((i : ℕ) → e < i → i < w → P i) → P w → ((i : ℕ) → w < i → i < stated → P i)
+        → ((i : ℕ) → stated ≤ i → i < d → P i) → P d → ((i : ℕ) → d < i → i < suc l → P i) → P (suc l) → P (suc (suc l)) → (i : ℕ) → lo ≤ i → i < n → P i
     by_part P start head carried variables entries test switches turns body end last reset span i c f =
         apart lo (λ g. absurd (omega arith)) start
         (λ g. apart (suc lo) (λ k. absurd (omega arith)) head
@@ -358,8 +332,7 @@ module _ (F : List Row) (s : Stand) (p from lo more e t w turn stated d l n : �
     switches_of : AreSwitchesOf F w
     switches_of =
         let block : (at F w).block ≡ suc lo = ap (λ (r : Row). r.block) b.switches in
-        let z : (q : IsLoopOf F n (at F w).block) × (q.switches ≡ w) =
-        subst (λ g. (q : IsLoopOf F n g) × (q.switches ≡ w)) (sym block) (is_loop_of, refl) in
+        let z : (q : IsLoopOf F n (at F w).block) × (q.switches ≡ w) = subst (λ g. (q : IsLoopOf F n g) × (q.switches ≡ w)) (sym block) (is_loop_of, refl) in
         record { loop = n; of = z.0; own = z.1 }
 
     switches_fits : Fits F (in_top (suc lo)) (suc e) w w (Switches t)
@@ -386,8 +359,7 @@ module _ (F : List Row) (s : Stand) (p from lo more e t w turn stated d l n : �
       value = λ h. absurd (false≢true h);
       statements = λ _ i c f k free. elim (cases_lt i stated) [
         | inl y ↦ let x = own.turn_rows i (omega (arith, b.turn_low)) y in
-            absurd (fails is_statement i x.node (mark_node (arm (in_top (suc lo)) w true) i x)
-            (mark_no_statement x.node x.mark) k)
+            absurd (fails is_statement i x.node (mark_node (arm (in_top (suc lo)) w true) i x) (mark_no_statement x.node x.mark) k)
         | inr y ↦ elim (b.body.held i y f k) [ inl z ↦ z | inr z ↦ absurd (false≢true (sym free ∙ z)) ]
       ];
       at_top = λ h. absurd (false≢true h);
@@ -431,8 +403,7 @@ module _ (F : List Row) (s : Stand) (p from lo more e t w turn stated d l n : �
     mark_row q i z g k x = single q x.place i x.value x.node z x.row g k (mark_inner x.node x.mark) x.fits
 
     -- each row of the body of a loop from the `Turn` on stands there
-    body_row : (j : ℕ) → suc turn ≤ j → j < d
-        → (suc turn ≤ (at F j).first) × StandsWithin F (arm (in_top (suc lo)) w true) j
+    body_row : (j : ℕ) → suc turn ≤ j → j < d → (suc turn ≤ (at F j).first) × StandsWithin F (arm (in_top (suc lo)) w true) j
     body_row j c f = elim (cases_lt j stated) [
       | inl k ↦ let x = own.turn_rows j (omega (arith, b.turn_low)) k in
           (omega (arith, ap (λ (r : Row). r.first) x.row), lies_mark (arm (in_top (suc lo)) w true) j x)
@@ -440,13 +411,9 @@ module _ (F : List Row) (s : Stand) (p from lo more e t w turn stated d l n : �
     ]
 
     inner_row : (i : ℕ) → lo ≤ i → i < n → i < suc (suc l) → RowIs F s lo i (at F i)
-    inner_row =
-        by_part (λ i. i < suc (suc l)
-        → RowIs F s lo i (at F i)) (λ _. start_row) (λ _. head_row) (λ i c f _. carried_row i c f)
-        (λ i c f _. variable_row i c f) (λ _. entries_row) (λ i c f _. test_row i c f) (λ _. switches_row)
-        (λ i c f _. turn_row i c f)
-        (λ i c f _. statement_row i c f) (λ _. end_row) (λ i c f _. last_row i c f) (λ _. reset_row)
-        (λ h. absurd (omega arith))
+    inner_row = by_part (λ i. i < suc (suc l) → RowIs F s lo i (at F i)) (λ _. start_row) (λ _. head_row) (λ i c f _. carried_row i c f)
+        (λ i c f _. variable_row i c f) (λ _. entries_row) (λ i c f _. test_row i c f) (λ _. switches_row) (λ i c f _. turn_row i c f)
+        (λ i c f _. statement_row i c f) (λ _. end_row) (λ i c f _. last_row i c f) (λ _. reset_row) (λ h. absurd (omega arith))
       where
         start_row : RowIs F s lo lo (at F lo)
         start_row = RowIs-fits F s p lo lo lo Start b.start (omega arith) (RowsAre-none F s lo) refl start_fits
@@ -460,8 +427,7 @@ module _ (F : List Row) (s : Stand) (p from lo more e t w turn stated d l n : �
         carried_row : (i : ℕ) → suc lo < i → i ≤ suc lo + more → RowIs F s lo i (at F i)
         carried_row i c f =
             let within : i < n = omega (arith, entries_low, entries_before, body_low, last_low, before_loop) in
-            top_row (suc lo) i (omega arith) (omega arith) within
-            (mark_row (in_top (suc lo)) i refl (omega arith) within (own.carried_rows i c f))
+            top_row (suc lo) i (omega arith) (omega arith) within (mark_row (in_top (suc lo)) i refl (omega arith) within (own.carried_rows i c f))
 
         variable_row : (i : ℕ) → suc lo + more < i → i < e → RowIs F s lo i (at F i)
         variable_row i c f =
@@ -486,63 +452,44 @@ module _ (F : List Row) (s : Stand) (p from lo more e t w turn stated d l n : �
         switches_row =
             let within : w < n = omega (arith, body_low, last_low, before_loop) in
             top_row (suc lo) w (omega arith) (omega (arith, head_low)) within
-            (own_row (in_top (suc lo)) p (suc e) w w (Switches t) refl b.switches (omega (arith, head_entries))
-            entries_before within
+            (own_row (in_top (suc lo)) p (suc e) w w (Switches t) refl b.switches (omega (arith, head_entries)) entries_before within
             (λ j c f. (own.test.behind j c f, (own.test.rows j c f).lies)) refl switches_fits)
 
         turn_row : (i : ℕ) → w < i → i < stated → RowIs F s lo i (at F i)
         turn_row i c f =
             let within : i < d = omega (arith, b.body.low) in
-            side_row true (suc lo) i (omega arith) (omega (arith, head_low)) (omega (arith, last_low, before_loop)) (
-              c,
-              omega arith,
-            )
-            (mark_row (arm (in_top (suc lo)) w true) i refl (omega (arith, head_low))
-            (omega (arith, last_low, before_loop)) (own.turn_rows i c f))
+            side_row true (suc lo) i (omega arith) (omega (arith, head_low)) (omega (arith, last_low, before_loop)) (c, omega arith)
+            (mark_row (arm (in_top (suc lo)) w true) i refl (omega (arith, head_low)) (omega (arith, last_low, before_loop)) (own.turn_rows i c f))
 
         statement_row : (i : ℕ) → stated ≤ i → i < d → RowIs F s lo i (at F i)
         statement_row i c f =
             let behind : w < i = omega (arith, b.turn_low, b.begins) in
-            side_row true (suc lo) i (omega arith) (omega (arith, head_low)) (omega (arith, last_low, before_loop))
-            (behind, omega arith) (b.body.rows i c f)
+            side_row true (suc lo) i (omega arith) (omega (arith, head_low)) (omega (arith, last_low, before_loop)) (behind, omega arith) (b.body.rows i c f)
 
         end_row : RowIs F s lo d (at F d)
         end_row =
             let within : d < n = omega (arith, last_low, before_loop) in
-            side_row true (suc lo) d (omega arith) (omega (arith, head_low, body_low)) within (
-              omega (arith, body_low),
-              omega arith,
-            )
-            (own_row (arm (in_top (suc lo)) w true) p (suc turn) d d Body refl b.body_end
-            (omega (arith, head_low, b.turn_low)) turn_before within
+            side_row true (suc lo) d (omega arith) (omega (arith, head_low, body_low)) within (omega (arith, body_low), omega arith)
+            (own_row (arm (in_top (suc lo)) w true) p (suc turn) d d Body refl b.body_end (omega (arith, head_low, b.turn_low)) turn_before within
             body_row refl body_fits)
 
         last_row : (i : ℕ) → d < i → i < suc l → RowIs F s lo i (at F i)
-        last_row i c f =
-            side_row false (suc d) i (omega (arith, head_low, body_low)) (omega (arith, head_low, body_low))
-            (omega (arith, before_loop))
+        last_row i c f = side_row false (suc d) i (omega (arith, head_low, body_low)) (omega (arith, head_low, body_low)) (omega (arith, before_loop))
             (c, omega (arith, before_loop)) (b.last.rows i c f)
 
         reset_row : RowIs F s lo (suc l) (at F (suc l))
         reset_row =
             let u = arm (in_top (suc lo)) w false in
-            side_row false (suc lo) (suc l) (omega arith) (omega (arith, head_low, body_low, last_low))
-            (omega (arith, before_loop))
+            side_row false (suc lo) (suc l) (omega arith) (omega (arith, head_low, body_low, last_low)) (omega (arith, before_loop))
             (omega (arith, last_low), omega (arith, before_loop))
-            (own_row u p (suc d) (suc l) (suc l) (Reset l) refl b.reset (omega (arith, head_low, body_low))
-            (omega (arith, last_low)) (omega (arith, before_loop))
+            (own_row u p (suc d) (suc l) (suc l) (Reset l) refl b.reset (omega (arith, head_low, body_low)) (omega (arith, last_low)) (omega (arith, before_loop))
             (λ j c f. ((b.last.rows j c f).low, (b.last.rows j c f).lies)) refl
             (Fits-simple F u p (suc d) (suc l) (Reset l) b.reset refl (λ h. absurd (false≢true h))
             (λ a h. subst (PartIs F u (suc d) (suc l)) (sym h) (part_of F u (suc d) (suc l) l b.last refl))))
 
     span_row : RowIs F s lo (suc (suc l)) (at F (suc (suc l)))
     span_row =
-        RowIs-row F s p lo lo (suc (suc l)) (suc (suc l)) Span b.span (omega arith) (omega (
-          arith,
-          head_low,
-          body_low,
-          last_low,
-        ))
+        RowIs-row F s p lo lo (suc (suc l)) (suc (suc l)) Span b.span (omega arith) (omega (arith, head_low, body_low, last_low))
         (λ j c f. let r = inner_row j c (omega (arith, before_loop)) f in (r.low, r.lies)) (inl refl) refl span_fits
 
     rows_inside : RowsAre F s lo n
@@ -556,9 +503,7 @@ module _ (F : List Row) (s : Stand) (p from lo more e t w turn stated d l n : �
 
     -- each row behind the head and before the `Span` begins behind it
     begins_behind : (i : ℕ) → suc lo < i → i < n → i < suc (suc l) → suc lo < (at F i).first
-    begins_behind i c f g =
-        by_part (λ k. suc lo < k → k < suc (suc l)
-        → suc lo < (at F k).first) (λ m _. absurd (omega arith)) (λ m _. absurd (omega arith))
+    begins_behind i c f g = by_part (λ k. suc lo < k → k < suc (suc l) → suc lo < (at F k).first) (λ m _. absurd (omega arith)) (λ m _. absurd (omega arith))
         (λ k g h _ _. omega (arith, g, ap (λ (r : Row). r.first) (own.carried_rows k g h).row))
         (λ k g h _ _. omega (arith, g, ap (λ (r : Row). r.first) (variable_at k g h).1))
         (λ _ _. omega (arith, head_entries, ap (λ (r : Row). r.first) b.entries))
@@ -568,8 +513,7 @@ module _ (F : List Row) (s : Stand) (p from lo more e t w turn stated d l n : �
         (λ k g h _ _. omega (arith, head_low, b.turn_low, b.begins, b.body.first k g h))
         (λ _ _. omega (arith, head_low, b.turn_low, ap (λ (r : Row). r.first) b.body_end))
         (λ k g h _ _. omega (arith, head_low, body_low, (b.last.rows k g h).low))
-        (λ _ _. omega (arith, head_low, body_low, ap (λ (r : Row). r.first) b.reset)) (λ _ m. absurd (omega arith)) i
-        (omega arith) f c g
+        (λ _ _. omega (arith, head_low, body_low, ap (λ (r : Row). r.first) b.reset)) (λ _ m. absurd (omega arith)) i (omega arith) f c g
 
     -- each of those is of the loop's block or of one behind its head
     in_blocks : (i : ℕ) → suc lo ≤ i → i + 1 < n → suc lo ≤ (at F i).block
@@ -583,13 +527,10 @@ module _ (F : List Row) (s : Stand) (p from lo more e t w turn stated d l n : �
         (λ k g h _ _. omega (arith, ap (λ (r : Row). r.block) (own.turn_rows k g h).row))
         (λ k g h _ _. of_row (suc lo) k (arm (in_top (suc lo)) w true) (omega arith) refl (b.body.rows k g h))
         (λ _ _. omega (arith, ap (λ (r : Row). r.block) b.body_end))
-        (λ k g h _ _. of_row (suc d) k (arm (in_top (suc lo)) w false) (omega (arith, head_low, body_low)) refl
-        (b.last.rows k g h))
-        (λ _ _. omega (arith, ap (λ (r : Row). r.block) b.reset)) (λ _ m. absurd (omega (arith, b.ends))) i
-        (omega arith) (omega arith) c f
+        (λ k g h _ _. of_row (suc d) k (arm (in_top (suc lo)) w false) (omega (arith, head_low, body_low)) refl (b.last.rows k g h))
+        (λ _ _. omega (arith, ap (λ (r : Row). r.block) b.reset)) (λ _ m. absurd (omega (arith, b.ends))) i (omega arith) (omega arith) c f
       where
-        of_row : (mid k : ℕ) (u : Stand) → suc lo ≤ mid → u.block ≡ suc lo → RowIs F u mid k (at F k)
-            → suc lo ≤ (at F k).block
+        of_row : (mid k : ℕ) (u : Stand) → suc lo ≤ mid → u.block ≡ suc lo → RowIs F u mid k (at F k) → suc lo ≤ (at F k).block
         of_row mid k u l q r = elim r.block [ inl z ↦ omega (arith, z.0, q) | inr z ↦ omega (arith, z.low) ]
 
     -- a `next` statement of the loop stands right in its body
@@ -599,28 +540,21 @@ module _ (F : List Row) (s : Stand) (p from lo more e t w turn stated d l n : �
         (λ j g h. no_mark (in_top (suc lo)) j (own.carried_rows j g h))
         (λ j g h. no_next j Variable (variable_node j g h) refl)
         (no_next e Entries entries_node refl)
-        (λ j g h m. let z = own.test.own j g h m.block (ap is_in_loop m.node) in
-        absurd (false≢true (sym (ap is_within m.node) ∙ z.0)))
+        (λ j g h m. let z = own.test.own j g h m.block (ap is_in_loop m.node) in absurd (false≢true (sym (ap is_within m.node) ∙ z.0)))
         (no_next w (Switches t) switches_node refl)
-        (λ j g h. no_mark (arm (in_top (suc lo)) w true) j (own.turn_rows j g h)) (λ j g h _. (g, h))
-        (no_next d Body body_node refl)
-        (λ j g h m. absurd
-        (no_inner F (arm (in_top (suc lo)) w false) (suc d) j k x (omega (arith, head_low, body_low))
-        (b.last.rows j g h) m))
+        (λ j g h. no_mark (arm (in_top (suc lo)) w true) j (own.turn_rows j g h)) (λ j g h _. (g, h)) (no_next d Body body_node refl)
+        (λ j g h m. absurd (no_inner F (arm (in_top (suc lo)) w false) (suc d) j k x (omega (arith, head_low, body_low)) (b.last.rows j g h) m))
         (no_next (suc l) (Reset l) reset_node refl) (no_next (suc (suc l)) Span span_node refl) i c f
       where
-        no_next : (j : ℕ) (m : Node) → (at F j).node ≡ m → is_next m ≡ false → IsNextOf F j (suc lo) k x
-            → (stated ≤ j) × (j < d)
+        no_next : (j : ℕ) (m : Node) → (at F j).node ≡ m → is_next m ≡ false → IsNextOf F j (suc lo) k x → (stated ≤ j) × (j < d)
         no_next j m e off q = absurd (fails is_next j m e off (ap is_next q.node))
 
         no_mark : (q : Stand) (j : ℕ) → Mark q j → IsNextOf F j (suc lo) k x → (stated ≤ j) × (j < d)
         no_mark q j y = no_next j y.node (mark_node q j y) (mark_no_next y.node y.mark)
 
     -- and each row of the loop's block stands where it ought to
-    stands_at : (i : ℕ) → suc lo ≤ i → i + 1 < n → (at F i).block ≡ suc lo
-        → StandsAt (suc lo) e w turn d n (at F i).node i
-    stands_at i c f =
-        by_part (λ j. suc lo ≤ j → j + 1 < n → (at F j).block ≡ suc lo → StandsAt (suc lo) e w turn d n (at F j).node j)
+    stands_at : (i : ℕ) → suc lo ≤ i → i + 1 < n → (at F i).block ≡ suc lo → StandsAt (suc lo) e w turn d n (at F i).node i
+    stands_at i c f = by_part (λ j. suc lo ≤ j → j + 1 < n → (at F j).block ≡ suc lo → StandsAt (suc lo) e w turn d n (at F j).node j)
         (λ g _. absurd (omega arith))
         (λ _ _ _. here (suc lo) (LoopHead lo) head_node refl)
         (λ j g h _ _ _. marked (in_top (suc lo)) j (own.carried_rows j g h))
@@ -629,16 +563,13 @@ module _ (F : List Row) (s : Stand) (p from lo more e t w turn stated d l n : �
         (λ j g h _ _ z. stands-test (suc lo) e w turn d n j (at F j).node (own.test.own j g h z))
         (λ _ _ _. here w (Switches t) switches_node refl)
         (λ j g h _ _ _. marked (arm (in_top (suc lo)) w true) j (own.turn_rows j g h))
-        (λ j g h _ _ z. stands-next (suc lo) e w turn d n j (at F j).node (omega (arith, b.begins)) h
-        (b.body.parts j g h z))
+        (λ j g h _ _ z. stands-next (suc lo) e w turn d n j (at F j).node (omega (arith, b.begins)) h (b.body.parts j g h z))
         (λ _ _ _. here d Body body_node refl)
         (λ j g h _ _ z. stands-none (suc lo) e w turn d n j (at F j).node
         (no_part F (arm (in_top (suc lo)) w false) (suc d) j (omega (arith, head_low, body_low)) (b.last.rows j g h) z))
-        (λ _ _ _. here (suc l) (Reset l) reset_node (omega (arith, b.ends))) (λ _ m _. absurd (omega (arith, b.ends))) i
-        (omega arith) (omega arith) c f
+        (λ _ _ _. here (suc l) (Reset l) reset_node (omega (arith, b.ends))) (λ _ m _. absurd (omega (arith, b.ends))) i (omega arith) (omega arith) c f
       where
-        here : (j : ℕ) (m : Node) → (at F j).node ≡ m → StandsAt (suc lo) e w turn d n m j
-            → StandsAt (suc lo) e w turn d n (at F j).node j
+        here : (j : ℕ) (m : Node) → (at F j).node ≡ m → StandsAt (suc lo) e w turn d n m j → StandsAt (suc lo) e w turn d n (at F j).node j
         here j m q x = subst (λ k. StandsAt (suc lo) e w turn d n k j) (sym q) x
 
         marked : (q : Stand) (j : ℕ) → Mark q j → StandsAt (suc lo) e w turn d n (at F j).node j
@@ -690,8 +621,7 @@ module _ (F : List Row) (s : Stand) (p from lo more e t w turn stated d l n : �
       place_carried = own.places;
       alone = λ j v m c f h. elim (cases_lt j (suc (suc l))) [
         | inl k ↦
-            let z = (rows_inside j (omega arith) f).fits.formed (suc lo)
-            (subst (λ q. HasPart q (suc lo)) (sym h) (inl refl)) in
+            let z = (rows_inside j (omega arith) f).fits.formed (suc lo) (subst (λ q. HasPart q (suc lo)) (sym h) (inl refl)) in
             omega (arith, z.0, begins_behind j c f k)
         | inr k ↦ let z : suc (suc l) ≡ j = omega (arith, b.ends) in
             false≢true (sym (ap is_loop span_node) ∙ ap (λ q. is_loop (at F q).node) z ∙ ap is_loop h)
@@ -728,16 +658,13 @@ module _ (F : List Row) (s : Stand) (p from lo more e t w turn stated d l n : �
     -- the expressions and stores of a loop are turned on with its regions
     turned_before : (j : ℕ) → lo ≤ j → j < n → can_be_on (at F j).node ≡ true → TurnedIn F (at F j).region j
     turned_before = by_part (λ j. can_be_on (at F j).node ≡ true → TurnedIn F (at F j).region j)
-        (none lo Start start_node refl) (none (suc lo) (LoopHead lo) head_node refl)
-        (λ j g h. no_mark (in_top (suc lo)) j (own.carried_rows j g h))
+        (none lo Start start_node refl) (none (suc lo) (LoopHead lo) head_node refl) (λ j g h. no_mark (in_top (suc lo)) j (own.carried_rows j g h))
         (λ j g h. none j Variable (variable_node j g h) refl)
         (none e Entries entries_node refl) own.test.turned (none w (Switches t) switches_node refl)
         (λ j g h. no_mark (arm (in_top (suc lo)) w true) j (own.turn_rows j g h)) body_on
-        (none d Body body_node refl) last_on (none (suc l) (Reset l) reset_node refl)
-        (none (suc (suc l)) Span span_node refl)
+        (none d Body body_node refl) last_on (none (suc l) (Reset l) reset_node refl) (none (suc (suc l)) Span span_node refl)
       where
-        none : (j : ℕ) (m : Node) → (at F j).node ≡ m → can_be_on m ≡ false → can_be_on (at F j).node ≡ true
-            → TurnedIn F (at F j).region j
+        none : (j : ℕ) (m : Node) → (at F j).node ≡ m → can_be_on m ≡ false → can_be_on (at F j).node ≡ true → TurnedIn F (at F j).region j
         none j m e off q = absurd (fails can_be_on j m e off q)
 
         no_mark : (q : Stand) (j : ℕ) → Mark q j → can_be_on (at F j).node ≡ true → TurnedIn F (at F j).region j
@@ -749,8 +676,7 @@ module _ (F : List Row) (s : Stand) (p from lo more e t w turn stated d l n : �
         last_on : (j : ℕ) → d < j → j < suc l → can_be_on (at F j).node ≡ true → TurnedIn F (at F j).region j
         last_on j g h k =
             let same : l ≡ b.last.end = omega (arith, b.last.ends) in
-            b.last.turned (subst (TurnedIn F (arm_at w false)) same (TurnedIn.root (Root.of_last b.within loop_node))) j
-            g h k
+            b.last.turned (subst (TurnedIn F (arm_at w false)) same (TurnedIn.root (Root.of_last b.within loop_node))) j g h k
 
         body_on : (j : ℕ) → stated ≤ j → j < d → can_be_on (at F j).node ≡ true → TurnedIn F (at F j).region j
         body_on j g h k = elim (b.body.turned j g h k) [
@@ -764,22 +690,17 @@ module _ (F : List Row) (s : Stand) (p from lo more e t w turn stated d l n : �
                 inside = around-true F d by.row (omega (arith, first, by.low, b.begins)) by.before;
                 right = by.free;
               } in
-              let on = TurnedIn.root
-              (root_in_body F d by.row by.value (within d (omega (arith, last_low, before_loop))) body_node is
-              by.statement) in
+              let on = TurnedIn.root (root_in_body F d by.row by.value (within d (omega (arith, last_low, before_loop))) body_node is by.statement) in
               by.turned (subst (λ r. TurnedIn F r by.value) region on)
         ]
 
     held_inside : (j : ℕ) → lo ≤ j → j < n → is_statement (at F j).node ≡ true → in_block F j (suc n) ≡ true
     held_inside = by_part (λ j. is_statement (at F j).node ≡ true → in_block F j (suc n) ≡ true)
-        (none lo Start start_node refl) (none (suc lo) (LoopHead lo) head_node refl)
-        (λ j g h. no_mark (in_top (suc lo)) j (own.carried_rows j g h))
+        (none lo Start start_node refl) (none (suc lo) (LoopHead lo) head_node refl) (λ j g h. no_mark (in_top (suc lo)) j (own.carried_rows j g h))
         (λ j g h. none j Variable (variable_node j g h) refl)
         (none e Entries entries_node refl)
-        (λ j g h k. in_block-more F j w (suc n) (omega (arith, body_low, last_low, before_loop))
-        (own.test.held j g h k))
-        (none w (Switches t) switches_node refl)
-        (λ j g h. no_mark (arm (in_top (suc lo)) w true) j (own.turn_rows j g h))
+        (λ j g h k. in_block-more F j w (suc n) (omega (arith, body_low, last_low, before_loop)) (own.test.held j g h k))
+        (none w (Switches t) switches_node refl) (λ j g h. no_mark (arm (in_top (suc lo)) w true) j (own.turn_rows j g h))
         (λ j g h k.
         let first : (at F d).first ≡ suc turn = ap (λ (r : Row). r.first) b.body_end in
         in_block-more F j (suc d) (suc n) (omega (arith, last_low, before_loop))
@@ -788,8 +709,7 @@ module _ (F : List Row) (s : Stand) (p from lo more e t w turn stated d l n : �
         (λ j g h k. in_block-more F j (suc l) (suc n) (omega (arith, before_loop)) (b.last.held j g h k))
         (none (suc l) (Reset l) reset_node refl) (none (suc (suc l)) Span span_node refl)
       where
-        none : (j : ℕ) (m : Node) → (at F j).node ≡ m → is_statement m ≡ false → is_statement (at F j).node ≡ true
-            → in_block F j (suc n) ≡ true
+        none : (j : ℕ) (m : Node) → (at F j).node ≡ m → is_statement m ≡ false → is_statement (at F j).node ≡ true → in_block F j (suc n) ≡ true
         none j m e off q = absurd (fails is_statement j m e off q)
 
         no_mark : (q : Stand) (j : ℕ) → Mark q j → is_statement (at F j).node ≡ true → in_block F j (suc n) ≡ true
@@ -802,7 +722,6 @@ module _ (F : List Row) (s : Stand) (p from lo more e t w turn stated d l n : �
         expression-fits F s p from n n (Loop (suc lo) w l) b.row low rows_before refl loop_fits refl refl
         (λ on j c f k. elim (cases_lt j lo) [ inl g ↦ own.before.turned on j c g k | inr g ↦ turned_before j g f k ])
         (λ j c f k. elim (cases_lt j lo) [
-          | inl g ↦ in_block-more F j lo (suc n) (omega (arith, head_low, body_low, last_low, before_loop))
-              (own.before.held j c g k)
+          | inl g ↦ in_block-more F j lo (suc n) (omega (arith, head_low, body_low, last_low, before_loop)) (own.before.held j c g k)
           | inr g ↦ held_inside j g f k
         ])

@@ -32,8 +32,7 @@ pub record AreBefore (F : List Row) (s : Stand) (f lo c n : ℕ) : Type 0 where
   pub low : f ≤ lo
   pub rows : RowsAre F s f lo
   pub from : Begins F lo n c
-  pub turned : TurnedIn F s.region n → (i : ℕ) → f ≤ i → i < lo → can_be_on (at F i).node ≡ true
-      → TurnedIn F (at F i).region i
+  pub turned : TurnedIn F s.region n → (i : ℕ) → f ≤ i → i < lo → can_be_on (at F i).node ≡ true → TurnedIn F (at F i).region i
   pub held : (i : ℕ) → f ≤ i → i < lo → is_statement (at F i).node ≡ true → in_block F i lo ≡ true
 
 -- the rows between the entries at e and the switches at w are those of the predicate, or of what is in its place; the
@@ -45,15 +44,12 @@ pub record AreTest (F : List Row) (h e t w c : ℕ) : Type 0 where
   pub stands : StandsHere F (in_top h) t
   pub rows : (i : ℕ) → e < i → i < w → RowIs F (in_top h) h i (at F i)
   pub behind : (i : ℕ) → e < i → i < w → e < (at F i).first
-  pub own : (i : ℕ) → e < i → i < w → (at F i).block ≡ h → is_in_loop (at F i).node ≡ true
-      → (is_within (at F i).node ≡ true) × (i + 1 ≡ w)
+  pub own : (i : ℕ) → e < i → i < w → (at F i).block ≡ h → is_in_loop (at F i).node ≡ true → (is_within (at F i).node ≡ true) × (i + 1 ≡ w)
   pub turned : (i : ℕ) → e < i → i < w → can_be_on (at F i).node ≡ true → TurnedIn F (at F i).region i
   pub held : (i : ℕ) → e < i → i < w → is_statement (at F i).node ≡ true → in_block F i w ≡ true
 
--- the rows from f on are those of a loop at the row n, which carries c entries on beside those of its variables: its
--- head
--- behind its `Start` at lo, its variables up to its entries at e, its switches at w behind the row t, its `Turn` at u,
--- its
+-- the rows from f on are those of a loop at the row n, which carries c entries on beside those of its variables: its head
+-- behind its `Start` at lo, its variables up to its entries at e, its switches at w behind the row t, its `Turn` at u, its
 -- statements from the row m on, the end d of its body, and its last expression, the last row of which is l
 pub record LoopRows (F : List Row) (s : Stand) (p f lo c e t w u m d l n : ℕ) : Type 0 where
   pub within : n < length F
@@ -107,8 +103,7 @@ stands-none h e w u b n i (Reset v) z = absurd (false≢true (sym z))
 stands-none h e w u b n i _ z = tt
 
 -- one before the switches stands where it ought to if it is right before them
-pub stands-test : (h e w u b n i : ℕ) (m : Node) → (is_in_loop m ≡ true → (is_within m ≡ true) × (i + 1 ≡ w))
-    → StandsAt h e w u b n m i
+pub stands-test : (h e w u b n i : ℕ) (m : Node) → (is_in_loop m ≡ true → (is_within m ≡ true) × (i + 1 ≡ w)) → StandsAt h e w u b n m i
 stands-test h e w u b n i (Within f) z = (z refl).1
 stands-test h e w u b n i (LoopHead s) z = absurd (false≢true (z refl).0)
 stands-test h e w u b n i (Carried y) z = absurd (false≢true (z refl).0)
@@ -125,8 +120,7 @@ stands-test h e w u b n i (Reset v) z = absurd (false≢true (z refl).0)
 stands-test h e w u b n i _ z = tt
 
 -- the rows of the statements of a body stand in it
-pub stands-next : (h e w u b n i : ℕ) (m : Node) → u < i → i < b → (is_in_loop m ≡ true → is_of_next m ≡ true)
-    → StandsAt h e w u b n m i
+pub stands-next : (h e w u b n i : ℕ) (m : Node) → u < i → i < b → (is_in_loop m ≡ true → is_of_next m ≡ true) → StandsAt h e w u b n m i
 stands-next h e w u b n i (NextUse x) l k z = (l, k)
 stands-next h e w u b n i (Next x j o v) l k z = (l, k)
 stands-next h e w u b n i (LoopHead s) l k z = absurd (false≢true (z refl))
@@ -148,8 +142,8 @@ expression_no_within (Within f) e = absurd (false≢true e)
 expression_no_within _ e = refl
 
 -- the predicate of a `while`
-test-expression : (F : List Row) (h e t w : ℕ) → h < suc e → AreExpression F (in_top h) (suc e) w → suc t ≡ w
-    → w < length F → (at F w).node ≡ Switches t → (at F w).region ≡ top h → AreTest F h e t w 0
+test-expression : (F : List Row) (h e t w : ℕ) → h < suc e → AreExpression F (in_top h) (suc e) w → suc t ≡ w → w < length F → (at F w).node ≡ Switches t
+    → (at F w).region ≡ top h → AreTest F h e t w 0
 test-expression F h e t w low test ends within node region =
     let same : test.end ≡ t = omega (arith, test.ends, ends) in
     let is : is_expression (at F t).node ≡ true = ap (λ k. is_expression (at F k).node) (sym same) ∙ test.expression in
@@ -162,17 +156,14 @@ test-expression F h e t w low test ends within node region =
       behind = λ i c f. (test.rows i c f).low;
       own = λ i c f z q. absurd (false≢true (sym (no_part F (in_top h) (suc e) i low (test.rows i c f) z) ∙ q));
       turned = λ i c f k.
-          let on = subst (λ r. TurnedIn F r t) region
-          (TurnedIn.root (Root.of_test within node (expression_no_within (at F t).node is))) in
+          let on = subst (λ r. TurnedIn F r t) region (TurnedIn.root (Root.of_test within node (expression_no_within (at F t).node is))) in
           test.turned (subst (TurnedIn F (top h)) (sym same) on) i c f k;
       held = λ i c f k. test.held i c f k;
     }
 
 -- what a `while` has of its own
-pub while-own : (F : List Row) (s : Stand) (p lo e t w d l n : ℕ)
-    → LoopRows F s p lo lo 0 e t w (suc w) (suc (suc w)) d l n
-    → AreExpression F (in_top (suc lo)) (suc e) w
-    → at F (suc w) ≡ row_in (arm (in_top (suc lo)) w true) p (suc w) (suc w) Turn
+pub while-own : (F : List Row) (s : Stand) (p lo e t w d l n : ℕ) → LoopRows F s p lo lo 0 e t w (suc w) (suc (suc w)) d l n
+    → AreExpression F (in_top (suc lo)) (suc e) w → at F (suc w) ≡ row_in (arm (in_top (suc lo)) w true) p (suc w) (suc w) Turn
     → OwnRows F s p lo lo 0 e t w (suc w) (suc (suc w)) d n
 while-own F s p lo e t w d l n b test turn =
     let within : w < length F = omega (arith, b.within, b.ends, b.last.low, b.last.ends, b.body.low) in
@@ -187,8 +178,7 @@ while-own F s p lo e t w d l n b test turn =
       };
       carried = nothing;
       carried_rows = λ i c f. absurd (omega arith);
-      test = test-expression F (suc lo) e t w (omega (arith, b.many)) test b.test_ends within
-          (ap (λ (r : Row). r.node) b.switches)
+      test = test-expression F (suc lo) e t w (omega (arith, b.many)) test b.test_ends within (ap (λ (r : Row). r.node) b.switches)
           (ap (λ (r : Row). r.region) b.switches);
       turns = right (omega arith);
       turn = node;
@@ -201,12 +191,9 @@ while-own F s p lo e t w d l n b test turn =
             row = turn;
             mark = refl;
             stands = refl;
-            fits = Fits-simple F (arm (in_top (suc lo)) w true) p (suc w) (suc w) Turn turn refl
-                (λ h. absurd (false≢true h)) (λ a h. absurd h);
+            fits = Fits-simple F (arm (in_top (suc lo)) w true) p (suc w) (suc w) Turn turn refl (λ h. absurd (false≢true h)) (λ a h. absurd h);
           });
-      turn_places =
-          λ i c f. let z : suc w ≡ i =
-          omega arith in subst (λ k. (at F k).place ≡ p) z (ap (λ (r : Row). r.place) turn);
+      turn_places = λ i c f. let z : suc w ≡ i = omega arith in subst (λ k. (at F k).place ≡ p) z (ap (λ (r : Row). r.place) turn);
       places = record {
         index = λ z. absurd (omega arith);
         bound = λ z. absurd (omega arith);

@@ -1,6 +1,5 @@
 -- What is true of the rows of a loop's statements.
-use Rattle.std.proofs.Common.{◌≡◌, ◌⊎◌, inl, inr, ◌<◌, ◌≤◌, ◌+◌, ℕ, suc, Bool, true, false, List, length, refl, sym, ap}
-use Rattle.std.proofs.Common.{◌∙◌, subst, arith}
+use Rattle.std.proofs.Common.{◌≡◌, ◌⊎◌, inl, inr, ◌<◌, ◌≤◌, ◌+◌, ℕ, suc, Bool, true, false, List, length, refl, sym, ap, ◌∙◌, subst, arith}
 use Rattle.std.proofs.lemmas.Bool.{cases_lt, false≢true}
 use Rattle.id_grammar.specs.Tree.{Tree, more, next}
 use Rattle.id_table.specs.declared.row.Row.{Row}
@@ -25,8 +24,7 @@ nexts_in t = 0
 
 -- the variables from the i-th on of a loop with the head h stand behind it, each at the place of its `next` statement
 abbrev pub Variables : List Row → ℕ → ℕ → Tree → Type 0
-Variables F h i (more (next x a p) b) =
-    (at F (h + 1 + i) ≡ row_in (in_top h) p (h + 1 + i) (h + 1 + i) Variable) × Variables F h (suc i) b
+Variables F h i (more (next x a p) b) = (at F (h + 1 + i) ≡ row_in (in_top h) p (h + 1 + i) (h + 1 + i) Variable) × Variables F h (suc i) b
 Variables F h i (more a b) = Variables F h i b
 Variables F h i t = Unit {0}
 
@@ -34,8 +32,7 @@ Variables F h i t = Unit {0}
 abbrev pub VariableAt : List Row → ℕ → ℕ → Type 0
 VariableAt F h i = (q : ℕ) × (at F i ≡ row_in (in_top h) q i i Variable)
 
-pub variables-each : (F : List Row) (h i : ℕ) (t : Tree) → Variables F h i t → (k : ℕ) → i ≤ k → k < i + nexts_in t
-    → VariableAt F h (h + 1 + k)
+pub variables-each : (F : List Row) (h i : ℕ) (t : Tree) → Variables F h i t → (k : ℕ) → i ≤ k → k < i + nexts_in t → VariableAt F h (h + 1 + k)
 variables-each F h i (more (next x a p) b) v k l m = elim (cases_lt i k) [
   | inl f ↦ variables-each F h (suc i) b v.1 k f (omega arith)
   | inr f ↦ let z : i ≡ k = omega arith in subst (λ j. VariableAt F h (h + 1 + j)) z (p, v.0)
@@ -52,8 +49,7 @@ size-variables s (more (next x a p) b) T =
 size-variables s (more a b) T = size-variables s b T
 size-variables s _ T = omega arith
 
-pub variables-added : (F : List Row) (h i : ℕ) (t : Tree) (T : Parts) → size T ≡ h + 1 + i
-    → Has F (add_variables (in_top h) T t).rows → Variables F h i t
+pub variables-added : (F : List Row) (h i : ℕ) (t : Tree) (T : Parts) → size T ≡ h + 1 + i → Has F (add_variables (in_top h) T t).rows → Variables F h i t
 variables-added F h i (more (next x a p) b) T e has =
     let V = with_row T (in_top h) p (size T) Variable in
     let q = push-size T.rows (row_for T.rows (in_top h) p (size T) Variable) in
@@ -70,23 +66,19 @@ is_of_next (NextUse x) = true
 is_of_next (Next x k o v) = true
 is_of_next _ = false
 
--- the rows from lo up to hi are those of statements right in the body of a loop, which is s; the indices of their
--- `next`
+-- the rows from lo up to hi are those of statements right in the body of a loop, which is s; the indices of their `next`
 -- statements are those from i up to c
 pub record AreNexts (F : List Row) (s : Stand) (i c lo hi : ℕ) : Type 0 where
   pub low : lo ≤ hi
   pub order : i ≤ c
   pub rows : (j : ℕ) → lo ≤ j → j < hi → RowIs F s s.block j (at F j)
   pub first : (j : ℕ) → lo ≤ j → j < hi → lo ≤ (at F j).first
-  pub turned : (j : ℕ) → lo ≤ j → j < hi → can_be_on (at F j).node ≡ true
-      → ByStatement F s lo hi j ⊎ TurnedIn F (at F j).region j
+  pub turned : (j : ℕ) → lo ≤ j → j < hi → can_be_on (at F j).node ≡ true → ByStatement F s lo hi j ⊎ TurnedIn F (at F j).region j
   pub held : (j : ℕ) → lo ≤ j → j < hi → is_statement (at F j).node ≡ true → StandsHere F s j ⊎ (in_block F j hi ≡ true)
-  pub parts : (j : ℕ) → lo ≤ j → j < hi → (at F j).block ≡ s.block → is_in_loop (at F j).node ≡ true
-      → is_of_next (at F j).node ≡ true
+  pub parts : (j : ℕ) → lo ≤ j → j < hi → (at F j).block ≡ s.block → is_in_loop (at F j).node ≡ true → is_of_next (at F j).node ≡ true
   pub own : (j k x : ℕ) → lo ≤ j → j < hi → IsNextOf F j s.block k x → (i ≤ k) × (k < c)
   pub each : (k : ℕ) → i ≤ k → k < c → (m : ℕ) × (x : ℕ) × IsNextOf F m s.block k x
-  pub once : (j m k x y : ℕ) → lo ≤ j → j < hi → lo ≤ m → m < hi → IsNextOf F j s.block k x → IsNextOf F m s.block k y
-      → j ≡ m
+  pub once : (j m k x y : ℕ) → lo ≤ j → j < hi → lo ≤ m → m < hi → IsNextOf F j s.block k x → IsNextOf F m s.block k y → j ≡ m
 
 -- the loop at the row n, with the head h, the switches w and the last expression l, is round its statements
 pub record IsRound (F : List Row) (u h w l n : ℕ) : Type 0 where
@@ -135,8 +127,7 @@ module _ (F : List Row) (s : Stand) where
               low = by.low;
               before = omega (arith, by.before);
               statement = by.statement;
-              free = in_block-behind F by.row mid hi next by.free (λ k u v. let z = g.first k u v in
-                  omega (arith, by.before));
+              free = in_block-behind F by.row mid hi next by.free (λ k u v. let z = g.first k u v in omega (arith, by.before));
               turned = by.turned;
             })
             | inr on ↦ inr on
@@ -181,8 +172,7 @@ module _ (F : List Row) (s : Stand) where
   behind-head mid k l r = RowIs-within F s s s.block mid k (at F k) l (inl refl) Lies.here (λ e. inl e) r
 
   -- no part of the loop stands in an expression
-  pub no_part : (mid j : ℕ) → s.block < mid → RowIs F s mid j (at F j) → (at F j).block ≡ s.block
-      → is_in_loop (at F j).node ≡ false
+  pub no_part : (mid j : ℕ) → s.block < mid → RowIs F s mid j (at F j) → (at F j).block ≡ s.block → is_in_loop (at F j).node ≡ false
   no_part mid j l r t = elim r.block [ inl e ↦ e.1 | inr h ↦ absurd (omega (arith, h.low, t)) ]
 
   pub no_inner : (mid j k x : ℕ) → s.block < mid → RowIs F s mid j (at F j) → IsNextOf F j s.block k x → ⊥
@@ -216,11 +206,9 @@ module _ (F : List Row) (s : Stand) where
 
 -- a `next` statement of the index i behind its use of the outer name at the row lo, and its expression
 module _ (F : List Row) (u h w l n : ℕ) (c : IsRound F u h w l n) (p lo x i a j : ℕ)
-    (used : at F lo ≡ row_in (arm (in_top h) w true) p lo lo (NextUse x))
-    (e : AreExpression F (arm (in_top h) w true) (suc lo) j) (ends : suc a ≡ j)
+    (used : at F lo ≡ row_in (arm (in_top h) w true) p lo lo (NextUse x)) (e : AreExpression F (arm (in_top h) w true) (suc lo) j) (ends : suc a ≡ j)
     (row : at F j ≡ row_in (arm (in_top h) w true) p lo j (Next x i lo a))
-    (variable : at F (h + 1 + i) ≡ row_in (in_top h) p (h + 1 + i) (h + 1 + i) Variable) (after : w < lo)
-    (before : j < n) where
+    (variable : at F (h + 1 + i) ≡ row_in (in_top h) p (h + 1 + i) (h + 1 + i) Variable) (after : w < lo) (before : j < n) where
   abbrev s : Stand
   s = arm (in_top h) w true
 
@@ -283,14 +271,12 @@ module _ (F : List Row) (u h w l n : ℕ) (c : IsRound F u h w l n) (p lo x i a 
   is_use_of : IsUseOf F lo x
   is_use_of =
       let block : (at F lo).block ≡ h = ap (λ (r : Row). r.block) used in
-      let z : (q : IsNextOf F j (at F lo).block i x) × (q.outer ≡ lo) =
-      subst (λ g. (q : IsNextOf F j g i x) × (q.outer ≡ lo)) (sym block) (next_of, refl) in
+      let z : (q : IsNextOf F j (at F lo).block i x) × (q.outer ≡ lo) = subst (λ g. (q : IsNextOf F j g i x) × (q.outer ≡ lo)) (sym block) (next_of, refl) in
       record { row = j; index = i; next = z.0; own = z.1 }
 
   use_row : RowIs F s h lo (at F lo)
   use_row =
-      RowIs-row F s p h lo lo lo (NextUse x) used (omega (arith, head_low)) (omega arith)
-      (λ k b d. absurd (omega arith))
+      RowIs-row F s p h lo lo lo (NextUse x) used (omega (arith, head_low)) (omega arith) (λ k b d. absurd (omega arith))
       (inr (head_in lo (omega arith) (omega (arith, low)))) refl (record {
         formed = λ b q. absurd q;
         part_stands = λ b q. absurd q;
@@ -341,8 +327,7 @@ module _ (F : List Row) (u h w l n : ℕ) (c : IsRound F u h w l n) (p lo x i a 
 
   next_row : RowIs F s h j (at F j)
   next_row =
-      RowIs-row F s p h lo j j (Next x i lo a) row (omega (arith, head_low)) (omega (arith, low))
-      (λ k b d. (first_before k b d, (row_before k b d).lies))
+      RowIs-row F s p h lo j j (Next x i lo a) row (omega (arith, head_low)) (omega (arith, low)) (λ k b d. (first_before k b d, (row_before k b d).lies))
       (inr (head_in j (omega (arith, low)) (omega arith))) refl next_fits
 
   -- what is true of its use, of the rows of its expression and of its own row is true of each of its rows
@@ -363,20 +348,17 @@ module _ (F : List Row) (u h w l n : ℕ) (c : IsRound F u h w l n) (p lo x i a 
     low = omega (arith, low);
     order = omega arith;
     rows = by_row (λ k. RowIs F s h k (at F k)) use_row (λ k g f. row_before k (omega arith) f) next_row;
-    first = by_row (λ k. lo ≤ (at F k).first) (first_before lo (omega arith) low)
-        (λ k g f. first_before k (omega arith) f)
+    first = by_row (λ k. lo ≤ (at F k).first) (first_before lo (omega arith) low) (λ k g f. first_before k (omega arith) f)
         (omega (arith, ap (λ (r : Row). r.first) row));
     turned = by_row (λ k. can_be_on (at F k).node ≡ true → ByStatement F s lo (suc j) k ⊎ TurnedIn F (at F k).region k)
         (λ t. absurd (false≢true (sym (ap can_be_on use_node) ∙ t))) (λ k g f t. inr (turned_on k g f t))
         (λ t. absurd (false≢true (sym (ap can_be_on next_node) ∙ t)));
     held = by_row (λ k. is_statement (at F k).node ≡ true → StandsHere F s k ⊎ (in_block F k (suc j) ≡ true))
-        (λ t. absurd (false≢true (sym (ap is_statement use_node) ∙ t)))
-        (λ k g f t. inr (in_block-more F k j (suc j) (omega arith) (e.held k g f t)))
+        (λ t. absurd (false≢true (sym (ap is_statement use_node) ∙ t))) (λ k g f t. inr (in_block-more F k j (suc j) (omega arith) (e.held k g f t)))
         (λ t. absurd (false≢true (sym (ap is_statement next_node) ∙ t)));
     parts = by_row (λ k. (at F k).block ≡ h → is_in_loop (at F k).node ≡ true → is_of_next (at F k).node ≡ true)
         (λ _ _. ap is_of_next use_node)
-        (λ k g f t is. absurd
-        (false≢true (sym (no_part F s (suc lo) k (omega (arith, head_low)) (e.rows k g f) t) ∙ is)))
+        (λ k g f t is. absurd (false≢true (sym (no_part F s (suc lo) k (omega (arith, head_low)) (e.rows k g f) t) ∙ is)))
         (λ _ _. ap is_of_next next_node);
     own = λ m k y b d t. let z = (own_is m k y b d t).1 in (omega arith, omega arith);
     each = λ k b d. let z : i ≡ k = omega arith in (j, x, subst (λ g. IsNextOf F j h g x) z next_of);

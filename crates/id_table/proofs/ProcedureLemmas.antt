@@ -1,6 +1,5 @@
 -- What is true of the rows of a procedure.
-use Rattle.std.proofs.Common.{◌≡◌, inl, inr, ◌-◌, ◌<◌, ◌≤◌, ℕ, suc, true, false, List, [], ◌∷◌, ◌++◌, length, refl, sym}
-use Rattle.std.proofs.Common.{ap, ◌∙◌, subst}
+use Rattle.std.proofs.Common.{◌≡◌, inl, inr, ◌-◌, ◌<◌, ◌≤◌, ℕ, suc, true, false, List, [], ◌∷◌, ◌++◌, length, refl, sym, ap, ◌∙◌, subst}
 use Rattle.std.proofs.Common.{arith}
 use Rattle.std.proofs.lemmas.Bool.{cases_lt, false≢true}
 use Rattle.id_value.specs.declared.Kind.{Kind}
@@ -17,8 +16,7 @@ use Rattle.id_table.specs.Regions.{Lies}
 use Rattle.id_table.specs.Turns.{AreParamsOf, InDefinition, IsDefOf, IsStatement, Root, TurnedIn}
 use Rattle.id_table.proofs.BlockLemmas.{statement_of}
 use Rattle.id_table.proofs.HasLemmas.{Has, at-push, push-size, push-within, row_for}
-use Rattle.id_table.proofs.RowLemmas.{Fits, RowsAre, RowsAre-both, StandsFurther, StandsWithin, differs, is_inner}
-use Rattle.id_table.proofs.RowLemmas.{stand_of}
+use Rattle.id_table.proofs.RowLemmas.{Fits, RowsAre, RowsAre-both, StandsFurther, StandsWithin, differs, is_inner, stand_of}
 use Rattle.id_table.proofs.ExpressionLemmas.{AreExpression, AreParams}
 use Rattle.id_table.proofs.ParamsLemmas.{NoParams}
 
@@ -34,8 +32,7 @@ pub record StandsIn (F : List Row) (i : ℕ) (r : Row) : Type 0 where
   pub inside : (j : ℕ) → r.first ≤ j → j < i → StandsWithin F (stand_of r) j
   pub fits : Fits F (stand_of r) r.first i r.value r.node
   pub head_place : (x h b : ℕ) (k : Kind) → r.node ≡ Def x h k b → (at F h).place ≡ r.place
-  pub head_is : (x h b : ℕ) (k : Kind) → r.node ≡ Def x h k b
-      → ((at F h).node ≡ Head) × (r.first ≡ h) × (is_expression (at F b).node ≡ true)
+  pub head_is : (x h b : ℕ) (k : Kind) → r.node ≡ Def x h k b → ((at F h).node ≡ Head) × (r.first ≡ h) × (is_expression (at F b).node ≡ true)
   pub def_of : InDefinition F i r.block
   pub params : is_def r.node ≡ true → AreParamsOf F r.first i
   pub alone : is_def r.node ≡ true → (j : ℕ) → r.first ≤ j → j < i → is_def (at F j).node ≡ false
@@ -49,8 +46,7 @@ pub record IsProcedure (F : List Row) (h n : ℕ) : Type 0 where
   pub low : h < n
   pub rows : RowsAre F (in_top h) (suc h) n
   pub turned : (i : ℕ) → suc h ≤ i → i < n → can_be_on (at F i).node ≡ true → TurnedIn F (at F i).region i
-  pub held : (i : ℕ) → suc h ≤ i → i < n → is_statement (at F i).node ≡ true
-      → (s : ℕ) × (s < length F) × IsStatement F s i
+  pub held : (i : ℕ) → suc h ≤ i → i < n → is_statement (at F i).node ≡ true → (s : ℕ) × (s < length F) × IsStatement F s i
 
 inner_no_def : (n : Node) → is_inner n ≡ true → is_def n ≡ false
 inner_no_def (Def x h k b) e = absurd (false≢true e)
@@ -123,8 +119,8 @@ module _ (F : List Row) where
     belongs = tt;
   }
 
-  stands-head : (R : List Row) (p n : ℕ) → Has F (R ++ row_for R (in_top (length R)) p (length R) Head ∷ [])
-      → IsProcedure F (length R) n → StandsIn F (length R) (at F (length R))
+  stands-head : (R : List Row) (p n : ℕ) → Has F (R ++ row_for R (in_top (length R)) p (length R) Head ∷ []) → IsProcedure F (length R) n
+      → StandsIn F (length R) (at F (length R))
   stands-head R p n has q = subst (StandsIn F (length R)) (sym (at-push F R _ has)) (record {
     first = omega arith;
     nested = λ j b c. absurd (omega arith);
@@ -137,15 +133,7 @@ module _ (F : List Row) where
     fits = head_fits (length R);
     head_place = λ x g b k e. absurd (false≢true (ap is_def e));
     head_is = λ x g b k e. absurd (false≢true (ap is_def e));
-    def_of = record {
-      head = length R;
-      row = n;
-      def = q.def;
-      low = omega arith;
-      high = omega (arith, q.low);
-      block =
-          λ _. refl;
-    };
+    def_of = record { head = length R; row = n; def = q.def; low = omega arith; high = omega (arith, q.low); block = λ _. refl };
     params = λ e. absurd (false≢true e);
     alone = λ e. absurd (false≢true e);
     turned = λ e. absurd (false≢true e);
@@ -153,8 +141,7 @@ module _ (F : List Row) where
   })
 
   -- a definition fits behind its head and its body
-  def_fits : (h i x b : ℕ) (k : Kind) → (at F h).block ≡ h → (at F h).region ≡ top h → h < i
-      → is_expression (at F b).node ≡ true → suc h ≤ b → b < i
+  def_fits : (h i x b : ℕ) (k : Kind) → (at F h).block ≡ h → (at F h).region ≡ top h → h < i → is_expression (at F b).node ≡ true → suc h ≤ b → b < i
       → (at F b).block ≡ h → (at F b).region ≡ top h → Fits F (in_top h) h i i (Def x h k b)
   def_fits h i x b k stands region less body low before inner within = record {
     formed = λ a e. elim e [ inl w ↦ (omega arith, omega arith) | inr w ↦ (omega arith, omega arith) ];
@@ -172,58 +159,47 @@ module _ (F : List Row) where
     belongs = tt;
   }
 
-  stands-def : (R : List Row) (p h x b : ℕ) (k : Kind) → Has F (R ++ row_for R (in_top h) p h (Def x h k b) ∷ [])
-      → (at F h).first ≡ h → (at F h).block ≡ h → (at F h).region ≡ top h → (at F h).place ≡ p
-      → is_expression (at F b).node ≡ true → suc h ≤ b → b < length R → (at F b).block ≡ h → (at F b).region ≡ top h
-      → IsProcedure F h (length R) → AreParamsOf F h (length R) → StandsIn F (length R) (at F (length R))
-  stands-def R p h x b k has first stands region spot body low before inner within q ps =
-      subst (StandsIn F (length R)) (sym (at-push F R _ has)) (record {
-        first = omega (arith, q.low);
-        nested = λ j c d. elim (cases_lt h j) [
-          | inl l ↦ let r = q.rows j l d in omega (arith, r.low)
-          | inr l ↦ let e : j ≡ h = omega arith in
-              let f = ap (λ i. (at F i).first) e in omega arith
-        ];
-        no_program = λ e. false≢true (sym (ap is_def e));
-        block = (omega (arith, q.low), ap begins_block q.head);
-        region = inl refl;
-        loop_of = λ e. absurd (false≢true e);
-        in_loop = λ t e. absurd (false≢true (sym (ap is_head e) ∙ ap is_head q.head));
-        inside = λ j c d. elim (cases_lt h j) [
-          | inl l ↦ (q.rows j l d).lies
-          | inr l ↦ let e : j ≡ h =
-              omega arith in subst (Lies F (top h)) (sym (ap (λ i. (at F i).region) e ∙ region)) Lies.here
-        ];
-        fits = def_fits h (length R) x b k stands region q.low body low before inner within;
-        head_place = λ y g c m e. ap (λ i. (at F i).place) (sym (ap (def_head h) e)) ∙ spot;
-        head_is = λ y g c m e.
-            let s = ap (def_head h) e in
-            let w = ap (def_body b) e in
-            (ap (λ i. (at F i).node) (sym s) ∙ q.head, s, ap (λ i. is_expression (at F i).node) (sym w) ∙ body);
-        def_of = record {
-          head = h;
-          row = length R;
-          def = q.def;
-          low = omega (arith, q.low);
-          high = omega arith;
-          block =
-              λ _. refl;
-        };
-        params = λ _. ps;
-        alone = λ _ j c d. elim (cases_lt h j) [
-          | inl l ↦ inner_no_def (at F j).node (q.rows j l d).inner
-          | inr l ↦ let e : j ≡ h = omega arith in ap (λ i. is_def (at F i).node) e ∙ ap is_def q.head
-        ];
-        turned = λ e. absurd (false≢true e);
-        in_a_block = λ e. absurd (false≢true e);
-      })
+  stands-def : (R : List Row) (p h x b : ℕ) (k : Kind) → Has F (R ++ row_for R (in_top h) p h (Def x h k b) ∷ []) → (at F h).first ≡ h → (at F h).block ≡ h
+      → (at F h).region ≡ top h → (at F h).place ≡ p
+      → is_expression (at F b).node ≡ true → suc h ≤ b → b < length R → (at F b).block ≡ h → (at F b).region ≡ top h → IsProcedure F h (length R)
+      → AreParamsOf F h (length R) → StandsIn F (length R) (at F (length R))
+  stands-def R p h x b k has first stands region spot body low before inner within q ps = subst (StandsIn F (length R)) (sym (at-push F R _ has)) (record {
+    first = omega (arith, q.low);
+    nested = λ j c d. elim (cases_lt h j) [
+      | inl l ↦ let r = q.rows j l d in omega (arith, r.low)
+      | inr l ↦ let e : j ≡ h = omega arith in
+          let f = ap (λ i. (at F i).first) e in omega arith
+    ];
+    no_program = λ e. false≢true (sym (ap is_def e));
+    block = (omega (arith, q.low), ap begins_block q.head);
+    region = inl refl;
+    loop_of = λ e. absurd (false≢true e);
+    in_loop = λ t e. absurd (false≢true (sym (ap is_head e) ∙ ap is_head q.head));
+    inside = λ j c d. elim (cases_lt h j) [
+      | inl l ↦ (q.rows j l d).lies
+      | inr l ↦ let e : j ≡ h = omega arith in subst (Lies F (top h)) (sym (ap (λ i. (at F i).region) e ∙ region)) Lies.here
+    ];
+    fits = def_fits h (length R) x b k stands region q.low body low before inner within;
+    head_place = λ y g c m e. ap (λ i. (at F i).place) (sym (ap (def_head h) e)) ∙ spot;
+    head_is = λ y g c m e.
+        let s = ap (def_head h) e in
+        let w = ap (def_body b) e in
+        (ap (λ i. (at F i).node) (sym s) ∙ q.head, s, ap (λ i. is_expression (at F i).node) (sym w) ∙ body);
+    def_of = record { head = h; row = length R; def = q.def; low = omega (arith, q.low); high = omega arith; block = λ _. refl };
+    params = λ _. ps;
+    alone = λ _ j c d. elim (cases_lt h j) [
+      | inl l ↦ inner_no_def (at F j).node (q.rows j l d).inner
+      | inr l ↦ let e : j ≡ h = omega arith in ap (λ i. is_def (at F i).node) e ∙ ap is_def q.head
+    ];
+    turned = λ e. absurd (false≢true e);
+    in_a_block = λ e. absurd (false≢true e);
+  })
 
   -- a definition behind its parameters and its body
   pub are-define : (T : List Row) (R : List Row) (p mid x b : ℕ) (k : Kind) → let h = length T in
       Has F (T ++ row_for T (in_top h) p h Head ∷ []) → Has F (R ++ row_for R (in_top h) p h (Def x h k b) ∷ [])
-      → AreParams F (in_top h) (length (T ++ row_for T (in_top h) p h Head ∷ [])) mid
-      → AreExpression F (in_top h) mid (length R) → NoParams F mid (length R) → b ≡ length R - 1 → (i : ℕ) → h ≤ i
-      → i < length (R ++ row_for R (in_top h) p h (Def x h k b) ∷ []) → StandsIn F i (at F i)
+      → AreParams F (in_top h) (length (T ++ row_for T (in_top h) p h Head ∷ [])) mid → AreExpression F (in_top h) mid (length R)
+      → NoParams F mid (length R) → b ≡ length R - 1 → (i : ℕ) → h ≤ i → i < length (R ++ row_for R (in_top h) p h (Def x h k b) ∷ []) → StandsIn F i (at F i)
   are-define T R p mid x b k start has ps e plain q i l m =
       let h = length T in
       let head = at-push F T _ start in
@@ -242,8 +218,7 @@ module _ (F : List Row) where
         rows = RowsAre-both F (in_top h) (suc h) mid (length R) enough params e.rows;
         turned = λ j u v w. elim (cases_lt j mid) [
           | inl d ↦ absurd (param_not_on (at F j).node (ps.param j (omega arith) d) w)
-          | inr d ↦ e.turned (subst (TurnedIn F (top h)) (sym same) (TurnedIn.root (Root.of_procedure within node))) j d
-              v w
+          | inr d ↦ e.turned (subst (TurnedIn F (top h)) (sym same) (TurnedIn.root (Root.of_procedure within node))) j d v w
         ];
         held = λ j u v w. elim (cases_lt j mid) [
           | inl d ↦ absurd (param_no_statement (at F j).node (ps.param j (omega arith) d) w)
@@ -258,18 +233,14 @@ module _ (F : List Row) where
         rest = λ j u v. plain j (omega (arith, u, enough)) v;
       } in
       elim (cases_lt h i) [
-        | inr d ↦ let z : h ≡ i =
-            omega arith in subst (λ j. StandsIn F j (at F j)) z (stands-head T p (length R) start procedure)
+        | inr d ↦ let z : h ≡ i = omega arith in subst (λ j. StandsIn F j (at F j)) z (stands-head T p (length R) start procedure)
         | inl d ↦ elim (cases_lt i (length R)) [
           | inl f ↦ stands-inner h (length R) i procedure d f
           | inr f ↦ let z : length R ≡ i = omega arith in
               subst (λ j. StandsIn F j (at F j)) z
-              (stands-def R p h x b k has (ap (λ (r : Row). r.first) head) (ap (λ (r : Row). r.block) head)
-              (ap (λ (r : Row). r.region) head)
+              (stands-def R p h x b k has (ap (λ (r : Row). r.first) head) (ap (λ (r : Row). r.block) head) (ap (λ (r : Row). r.region) head)
               (ap (λ (r : Row). r.place) head)
-              (subst (λ n. is_expression (at F n).node ≡ true) same e.expression) (omega (arith, e.low))
-              (omega (arith, e.ends))
-              (subst (λ n. (at F n).block ≡ h) same e.block) (subst (λ n. (at F n).region ≡ top h) same e.region)
-              procedure params_of)
+              (subst (λ n. is_expression (at F n).node ≡ true) same e.expression) (omega (arith, e.low)) (omega (arith, e.ends))
+              (subst (λ n. (at F n).block ≡ h) same e.block) (subst (λ n. (at F n).region ≡ top h) same e.region) procedure params_of)
         ]
       ]

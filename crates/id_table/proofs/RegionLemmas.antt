@@ -1,22 +1,17 @@
 -- The regions of a table lie in one another, and the rows of an arm are those that stand in its region or further in.
-use Rattle.std.proofs.Common.{◌≡◌, ◌⊎◌, inl, inr, ◌+◌, ◌-◌, ◌<◌, ◌≤◌, ℕ, Bool, true, false, List, length, refl, sym, ap}
-use Rattle.std.proofs.Common.{◌∙◌, subst, arith}
+use Rattle.std.proofs.Common.{◌≡◌, ◌⊎◌, inl, inr, ◌+◌, ◌-◌, ◌<◌, ◌≤◌, ℕ, Bool, true, false, List, length, refl, sym, ap, ◌∙◌, subst, arith}
 use Rattle.std.proofs.lemmas.Bool.{cases_lt, false≢true}
 use Rattle.id_table.specs.declared.row.Region.{Region}
 use Rattle.id_table.specs.declared.row.Row.{Row}
 use Rattle.id_table.specs.declared.row.Node.{Node}
 use Rattle.id_table.specs.declared.row.Node.TheVariants.{Bounds, Loop, Split, Start, If, LoopHead, Store, Switches}
 use Rattle.id_table.specs.Rows.{arm_at, at, top}
-use Rattle.id_table.specs.Tables.{HasNear, HasOperand, HasPart, begins_block, is_if, is_loop, is_split, is_switches}
-use Rattle.id_table.specs.Tables.{is_top}
+use Rattle.id_table.specs.Tables.{HasNear, HasOperand, HasPart, begins_block, is_if, is_loop, is_split, is_switches, is_top}
 use Rattle.id_table.specs.Loops.{AreBounds, Begins, InSide, IsLoopOf, StandsInSide, bounds_row, plainly, with_bounds}
 use Rattle.id_table.specs.Regions.{InArm, IsIfOf, Lies, here, in_arm, in_loop, in_side}
-use Rattle.id_table.specs.Turns.{IsTable, Root, TurnedIn, Turns, argument, body, left, of_otherwise, of_procedure}
-use Rattle.id_table.specs.Turns.{of_then}
-use Rattle.id_table.specs.Turns.{operand, part, right, root, statement, test, of_last, of_next, of_statement, of_store}
-use Rattle.id_table.specs.Turns.{of_test}
-use Rattle.id_table.specs.Turns.{address_index, address_target, fetch_index, fetched, high, index_high, index_low, low}
-use Rattle.id_table.specs.Turns.{stored, stored_value}
+use Rattle.id_table.specs.Turns.{IsTable, Root, TurnedIn, Turns, argument, body, left, of_otherwise, of_procedure, of_then}
+use Rattle.id_table.specs.Turns.{operand, part, right, root, statement, test, of_last, of_next, of_statement, of_store, of_test}
+use Rattle.id_table.specs.Turns.{address_index, address_target, fetch_index, fetched, high, index_high, index_low, low, stored, stored_value}
 use Rattle.id_table.proofs.BlockLemmas.{around-within}
 use Rattle.id_table.proofs.BlocksLemmas.{not_last}
 use Rattle.id_table.proofs.RowLemmas.{Lies-both, body_low, near_part, operand_part}
@@ -41,8 +36,7 @@ Lies-chain R (in_arm w e l) (in_arm v f m) = Lies-chain R l m
 Lies-chain R (in_arm {s} w e l) (in_loop v f m) = absurd (false≢true (sym (ap is_split f) ∙ e))
 Lies-chain R (in_arm {s} w e l) (in_side v f m) = absurd (split_no_switches (at R s).node e f)
 Lies-chain R (in_loop w e l) (in_arm v f m) = absurd (false≢true (sym (ap is_split e) ∙ f))
-Lies-chain R {p} (in_loop w e l) (in_loop v f m) =
-    let z = ap (start_or 0) (sym e ∙ f) in Lies-chain R (subst (λ k. Lies R p (at R k).region) z l) m
+Lies-chain R {p} (in_loop w e l) (in_loop v f m) = let z = ap (start_or 0) (sym e ∙ f) in Lies-chain R (subst (λ k. Lies R p (at R k).region) z l) m
 Lies-chain R (in_loop w e l) (in_side v f m) = absurd (false≢true (sym (ap is_switches e) ∙ f))
 Lies-chain R (in_side {w = s} w e l) (in_arm v f m) = absurd (split_no_switches (at R s).node f e)
 Lies-chain R (in_side w e l) (in_loop v f m) = absurd (false≢true (sym (ap is_switches f) ∙ e))
@@ -94,19 +88,16 @@ module _ (R : List Row) (t : IsTable R) where
   if_not_last n s c = not_last R t is_if refl n c.within (ap is_if c.node)
 
   -- a row right in an arm's region is one of the arm
-  pub InArm-region : (n s i : ℕ) (b : Bool) (c : IsIfOf R n s) → i + 1 < length R → (at R i).region ≡ arm_at s b
-      → InArm s c.then n b i
+  pub InArm-region : (n s i : ℕ) (b : Bool) (c : IsIfOf R n s) → i + 1 < length R → (at R i).region ≡ arm_at s b → InArm s c.then n b i
   InArm-region n s i b c l e = elim (t.region i l) [
     | inl k ↦
         let same : (at R i).block ≡ s = ap (λ (r : Region). r.head) (sym k ∙ e) in
         let z = t.split_of n s c in
-        absurd (false≢true (sym (ap begins_block z.node) ∙ ap (λ j. begins_block (at R j).node) (sym same)
-        ∙ (t.block i l).1))
+        absurd (false≢true (sym (ap begins_block z.node) ∙ ap (λ j. begins_block (at R j).node) (sym same) ∙ (t.block i l).1))
     | inr (inr k) ↦
         let one : k.loop.switches ≡ s = ap (λ (r : Region). r.head) (sym k.region ∙ e) in
         let z = t.split_of n s c in
-        absurd (false≢true (sym (ap is_split (t.loop_is k.row (at R i).block k.loop).test.node)
-        ∙ ap (λ j. is_split (at R j).node) one
+        absurd (false≢true (sym (ap is_split (t.loop_is k.row (at R i).block k.loop).test.node) ∙ ap (λ j. is_split (at R j).node) one
         ∙ ap is_split z.node))
     | inr (inl k) ↦
         let one : k.split ≡ s = ap (λ (r : Region). r.head) (sym k.region ∙ e) in
@@ -119,8 +110,7 @@ module _ (R : List Row) (t : IsTable R) where
           let row : m ≡ n = t.one_if m n s (subst (IsIfOf R m) one d) c in
           let arm : d.then ≡ c.then = ap (then_or 0) (sym d.node ∙ ap (λ j. (at R j).node) row ∙ c.node) in
           subst (λ x. InArm s x n b i) arm
-          (subst (λ j. InArm s d.then j b i) row
-          (subst (λ y. InArm s d.then m y i) side (subst (λ j. InArm j d.then m a i) one among)))
+          (subst (λ j. InArm s d.then j b i) row (subst (λ y. InArm s d.then m y i) side (subst (λ j. InArm j d.then m a i) one among)))
 
   -- an arm stands between the split and the conditional
   pub InArm-within : (n s i : ℕ) (b : Bool) (c : IsIfOf R n s) → InArm s c.then n b i → (s < i) × (i < n)
@@ -143,12 +133,10 @@ module _ (R : List Row) (t : IsTable R) where
   start_at m h u d e = let x = t.loop_is m h d in omega (arith, x.begins, ap (start_or 0) (sym e ∙ x.before_test.head))
 
   no_switches : (i u : ℕ) (k : StandsInSide R i) → k.loop.switches ≡ u → is_switches (at R u).node ≡ true
-  no_switches i u k z =
-      ap (λ j. is_switches (at R j).node) (sym z) ∙ ap is_switches (t.loop_is k.row (at R i).block k.loop).test.node
+  no_switches i u k z = ap (λ j. is_switches (at R j).node) (sym z) ∙ ap is_switches (t.loop_is k.row (at R i).block k.loop).test.node
 
   -- a row right in a loop's region stands between its head and the loop
-  top_within : (h u m i : ℕ) → h < length R → (at R h).node ≡ LoopHead u → IsLoopOf R m h → i + 1 < length R
-      → (at R i).region ≡ top h → (h ≤ i) × (i < m)
+  top_within : (h u m i : ℕ) → h < length R → (at R h).node ≡ LoopHead u → IsLoopOf R m h → i + 1 < length R → (at R i).region ≡ top h → (h ≤ i) × (i < m)
   top_within h u m i w is d l e = elim (t.region i l) [
     | inl k ↦
         let same : (at R i).block ≡ h = ap (λ (r : Region). r.head) (sym k ∙ e) in
@@ -157,41 +145,35 @@ module _ (R : List Row) (t : IsTable R) where
         (omega (arith, (t.block i l).0, same), omega (arith, x.2, one))
     | inr (inl k) ↦
         let z : k.split ≡ h = ap (λ (r : Region). r.head) (sym k.region ∙ e) in
-        absurd (false≢true (sym (ap is_split is) ∙ ap (λ j. is_split (at R j).node) (sym z)
-        ∙ ap is_split (t.split_of k.row k.split k.conditional).node))
+        absurd (false≢true (sym (ap is_split is) ∙ ap (λ j. is_split (at R j).node) (sym z) ∙ ap is_split (t.split_of k.row k.split k.conditional).node))
     | inr (inr k) ↦
         let z : k.loop.switches ≡ h = ap (λ (r : Region). r.head) (sym k.region ∙ e) in
         absurd (false≢true (sym (ap is_switches is) ∙ no_switches i h k z))
   ]
 
   -- and one right in a side of its switches between those and the loop
-  side_within : (u m i : ℕ) (a : Bool) → is_switches (at R u).node ≡ true → IsLoopOf R m (at R u).block
-      → i + 1 < length R → (at R i).region ≡ arm_at u a → (u < i) × (i < m)
+  side_within : (u m i : ℕ) (a : Bool) → is_switches (at R u).node ≡ true → IsLoopOf R m (at R u).block → i + 1 < length R → (at R i).region ≡ arm_at u a
+      → (u < i) × (i < m)
   side_within u m i a is d l e = elim (t.region i l) [
     | inl k ↦
         let same : (at R i).block ≡ u = ap (λ (r : Region). r.head) (sym k ∙ e) in
         let z = switches_node (at R u).node is in
-        absurd (false≢true (sym (ap begins_block z.1) ∙ ap (λ j. begins_block (at R j).node) (sym same)
-        ∙ (t.block i l).1))
+        absurd (false≢true (sym (ap begins_block z.1) ∙ ap (λ j. begins_block (at R j).node) (sym same) ∙ (t.block i l).1))
     | inr (inl k) ↦
         let z : k.split ≡ u = ap (λ (r : Region). r.head) (sym k.region ∙ e) in
-        absurd (split_no_switches (at R u).node (ap (λ j. is_split (at R j).node) (sym z)
-        ∙ ap is_split (t.split_of k.row k.split k.conditional).node) is)
+        absurd (split_no_switches (at R u).node (ap (λ j. is_split (at R j).node) (sym z) ∙ ap is_split (t.split_of k.row k.split k.conditional).node) is)
     | inr (inr k) ↦
         let z : k.loop.switches ≡ u = ap (λ (r : Region). r.head) (sym k.region ∙ e) in
         let x = t.loop_is k.row (at R i).block k.loop in
         let same : (at R i).block ≡ (at R u).block = sym x.test.block ∙ ap (λ j. (at R j).block) z in
         let y = t.in_loop i ((at R i).block - 1) l x.before_test.head in
-        let one = t.one_loop y.0 m (at R u).block (subst (IsLoopOf R y.0) same y.1) d in (
-          omega (arith, z, side_low k.loop.switches k.body k.row i k.side (body_low k.body_is) k.among),
-          omega (arith, y.2, one),
-        )
+        let one = t.one_loop y.0 m (at R u).block (subst (IsLoopOf R y.0) same y.1) d in
+        (omega (arith, z, side_low k.loop.switches k.body k.row i k.side (body_low k.body_is) k.among), omega (arith, y.2, one))
   ]
 
   module _ (n s : ℕ) (b : Bool) (c : IsIfOf R n s) where
     mutual
-      lies-row : {r : Region} → Lies R (arm_at s b) r → (i : ℕ) → i + 1 < length R → (at R i).region ≡ r
-          → InArm s c.then n b i
+      lies-row : {r : Region} → Lies R (arm_at s b) r → (i : ℕ) → i + 1 < length R → (at R i).region ≡ r → InArm s c.then n b i
       lies-row here i l e = InArm-region n s i b c l e
       lies-row (in_arm {s = u} {b = a} w is m) i l e =
           let z = split_node (at R u).node is in
@@ -207,8 +189,7 @@ module _ (R : List Row) (t : IsTable R) where
           let from = lies-row m u (omega (arith, same, low.0, l)) refl in
           let x = t.loop_is d.0 h d.1 in
           let start : x.start ≡ u = omega (arith, same, x.begins) in
-          let to = lies-row m d.0 (loop_not_last d.0 h d.1) (sym x.start_of.beside.region
-          ∙ ap (λ k. (at R k).region) start) in
+          let to = lies-row m d.0 (loop_not_last d.0 h d.1) (sym x.start_of.beside.region ∙ ap (λ k. (at R k).region) start) in
           InArm-between s c.then n u i d.0 b from to (omega (arith, same, low.0)) (omega (arith, low.1))
       lies-row (in_side {w = u} {b = a} w is m) i l e =
           let z = switches_node (at R u).node is in
@@ -221,12 +202,10 @@ module _ (R : List Row) (t : IsTable R) where
           InArm-between s c.then n u i d.0 b from to (omega (arith, low.0)) (omega (arith, low.1))
 
       -- a loop whose region lies in an arm ends there
-      lies-loop : {r : Region} → Lies R (arm_at s b) r → (h u m : ℕ) → (at R h).node ≡ LoopHead u → IsLoopOf R m h
-          → r ≡ top h → InArm s c.then n b m
+      lies-loop : {r : Region} → Lies R (arm_at s b) r → (h u m : ℕ) → (at R h).node ≡ LoopHead u → IsLoopOf R m h → r ≡ top h → InArm s c.then n b m
       lies-loop here h u m e d q =
           let z : s ≡ h = ap (λ (r : Region). r.head) q in
-          absurd (false≢true (sym (ap is_split e) ∙ ap (λ j. is_split (at R j).node) (sym z)
-          ∙ ap is_split (t.split_of n s c).node))
+          absurd (false≢true (sym (ap is_split e) ∙ ap (λ j. is_split (at R j).node) (sym z) ∙ ap is_split (t.split_of n s c).node))
       lies-loop (in_arm {s = v} w is l) h u m e d q =
           let z : v ≡ h = ap (λ (r : Region). r.head) q in
           absurd (false≢true (sym (ap is_split e) ∙ ap (λ j. is_split (at R j).node) (sym z) ∙ is))
@@ -270,15 +249,14 @@ module _ (R : List Row) (t : IsTable R) where
   ]
 
   -- what stands where the address of a store does stands where the store does
-  address_stands : (n b a : ℕ) {v : ℕ} → n < length R → HasPart (Store b v) b → (at R n).node ≡ Store b v
-      → HasNear (at R b).node a → (at R a).region ≡ (at R n).region
+  address_stands : (n b a : ℕ) {v : ℕ} → n < length R → HasPart (Store b v) b → (at R n).node ≡ Store b v → HasNear (at R b).node a
+      → (at R a).region ≡ (at R n).region
   address_stands n b a l h e f =
       let p = (t.formed.each n l).parts b (subst (λ m. HasPart m b) (sym e) h) in
       (t.part_stands b a (omega (arith, p.1, l)) f).1 ∙ (t.part_stands n b l (subst (λ m. HasNear m b) (sym e) h)).1
 
   -- the bounds of an index stand where the loop does
-  bounds_stand : (n h w l a b c : ℕ) → n < length R → (at R n).node ≡ Loop h w l
-      → (at R (bounds_row h)).node ≡ Bounds a b → HasNear (Bounds a b) c
+  bounds_stand : (n h w l a b c : ℕ) → n < length R → (at R n).node ≡ Loop h w l → (at R (bounds_row h)).node ≡ Bounds a b → HasNear (Bounds a b) c
       → (at R c).region ≡ (at R n).region
   bounds_stand n h w l a b c m e f p =
       let d : IsLoopOf R n h = record { switches = w; last = l; within = m; node = e } in
@@ -287,8 +265,7 @@ module _ (R : List Row) (t : IsTable R) where
       let two : bounds_row h + 2 ≡ h = elim (cases_lt h 2) [
         | inr g ↦ omega arith
         | inl g ↦ let z : x.start ≡ bounds_row h = omega (arith, x.begins) in
-            absurd (false≢true (sym (ap is_start f) ∙ ap (λ k. is_start (at R k).node) (sym z)
-            ∙ ap is_start x.start_of.node))
+            absurd (false≢true (sym (ap is_start f) ∙ ap (λ k. is_start (at R k).node) (sym z) ∙ ap is_start x.start_of.node))
       ] in
       let inside : bounds_row h < length R = omega (arith, head.1, m) in
       let own = t.bounds_of (bounds_row h) a b inside f in
@@ -296,8 +273,7 @@ module _ (R : List Row) (t : IsTable R) where
       let y = t.loop_is own.0 (bounds_row h + 2) own.1 in
       let k = Begins-bounds y.from own.2 in
       let at_bounds : k.0 ≡ bounds_row h = omega (arith, k.1, y.begins) in
-      let near : (at R c).region ≡ (at R (bounds_row h)).region =
-      (t.part_stands (bounds_row h) c inside (subst (λ q. HasNear q c) (sym f) p)).1 in
+      let near : (at R c).region ≡ (at R (bounds_row h)).region = (t.part_stands (bounds_row h) c inside (subst (λ q. HasNear q c) (sym f) p)).1 in
       let row : (at R k.0).region ≡ (at R own.0).region = k.2.beside.region in
       let here : (at R (bounds_row h)).region ≡ (at R k.0).region = ap (λ q. (at R q).region) (sym at_bounds) in
       let there : (at R own.0).region ≡ (at R n).region = ap (λ q. (at R q).region) same in
@@ -315,23 +291,19 @@ module _ (R : List Row) (t : IsTable R) where
   Turns-stands n a l (argument {e = s} {c} {m} {k} e b f) =
       let w = t.arg_of m s k (record { value = a; within = b; node = f }) in
       let same = t.one_call w.row n s w.call (record { count = c; within = l; node = e }) in
-      (t.part_stands m a b (subst (λ z. HasNear z a) (sym f) (inr refl))).1 ∙ w.stands.region
-      ∙ ap (λ z. (at R z).region) same
+      (t.part_stands m a b (subst (λ z. HasNear z a) (sym f) (inr refl))).1 ∙ w.stands.region ∙ ap (λ z. (at R z).region) same
   Turns-stands n a l (body e) = (t.part_stands n a l (subst (λ m. HasNear m a) (sym e) refl)).1
   Turns-stands n a l (statement {m} is s e) =
       let w = around-within R n m s.inside in
-      (t.part_stands m a (omega (arith, w.1, l)) (subst (λ m. HasNear m a) (sym e) refl)).1
-      ∙ (t.statement_stands n m l s).1
+      (t.part_stands m a (omega (arith, w.1, l)) (subst (λ m. HasNear m a) (sym e) refl)).1 ∙ (t.statement_stands n m l s).1
   Turns-stands n a l (index_low {h} {w} {l = v} {b = c} e f) = bounds_stand n h w v a c a l e f (inl refl)
   Turns-stands n a l (index_high {h} {w} {l = v} {a = c} e f) = bounds_stand n h w v c a a l e f (inr refl)
   Turns-stands n a l (low e) = (t.part_stands n a l (subst (λ m. HasNear m a) (sym e) (inl refl))).1
   Turns-stands n a l (high e) = (t.part_stands n a l (subst (λ m. HasNear m a) (sym e) (inr refl))).1
   Turns-stands n a l (fetched e) = (t.part_stands n a l (subst (λ m. HasNear m a) (sym e) (inl refl))).1
   Turns-stands n a l (fetch_index e) = (t.part_stands n a l (subst (λ m. HasNear m a) (sym e) (inr refl))).1
-  Turns-stands n a l (address_target {a = b} e f) =
-      address_stands n b a l (inl refl) e (subst (λ m. HasNear m a) (sym f) (inl refl))
-  Turns-stands n a l (address_index {a = b} e f) =
-      address_stands n b a l (inl refl) e (subst (λ m. HasNear m a) (sym f) (inr refl))
+  Turns-stands n a l (address_target {a = b} e f) = address_stands n b a l (inl refl) e (subst (λ m. HasNear m a) (sym f) (inl refl))
+  Turns-stands n a l (address_index {a = b} e f) = address_stands n b a l (inl refl) e (subst (λ m. HasNear m a) (sym f) (inr refl))
   Turns-stands n a l (stored_value e) = (t.part_stands n a l (subst (λ m. HasNear m a) (sym e) (inr refl))).1
   Turns-stands n a l (stored is s e) = (t.statement_stands n a l s).1
 
@@ -344,19 +316,15 @@ module _ (R : List Row) (t : IsTable R) where
       let body = (t.part_stands n b l (subst (λ m. HasNear m b) (sym d) (inr refl))).1 in
       let own = (t.part_stands n h l (subst (λ m. HasNear m h) (sym d) (inl refl))).1 in
       body ∙ sym own ∙ t.at_top h within (ap is_top head) ∙ ap top (t.head_block h within (ap begins_block head))
-  Root-stands r e (of_then {n} {s} {x} {y} l d) =
-      (t.arms n s (record { then = x; otherwise = y; within = l; node = d })).then_stands
-  Root-stands r e (of_otherwise {n} {s} {x} {y} l d) =
-      (t.arms n s (record { then = x; otherwise = y; within = l; node = d })).otherwise_stands
+  Root-stands r e (of_then {n} {s} {x} {y} l d) = (t.arms n s (record { then = x; otherwise = y; within = l; node = d })).then_stands
+  Root-stands r e (of_otherwise {n} {s} {x} {y} l d) = (t.arms n s (record { then = x; otherwise = y; within = l; node = d })).otherwise_stands
   Root-stands r e (of_test {w} l d _) = (t.part_stands w e l (subst (λ m. HasNear m e) (sym d) refl)).1
   Root-stands r e (of_statement {n} {m} l is s d) =
       let w = around-within R n m s.inside in
-      (t.part_stands m e (omega (arith, w.1, l)) (subst (λ m. HasNear m e) (sym d) refl)).1
-      ∙ (t.statement_stands n m l s).1
+      (t.part_stands m e (omega (arith, w.1, l)) (subst (λ m. HasNear m e) (sym d) refl)).1 ∙ (t.statement_stands n m l s).1
   Root-stands r e (of_store {n} l is s d) = (t.statement_stands n e l s).1
   Root-stands r e (of_next {m} l d) = (t.part_stands m e l (subst (λ m. HasNear m e) (sym d) (inr refl))).1
-  Root-stands r e (of_last {n} {h} {w} l d) =
-      (t.loop_is n h (record { switches = w; last = e; within = l; node = d })).last_is.region
+  Root-stands r e (of_last {n} {h} {w} l d) = (t.loop_is n h (record { switches = w; last = e; within = l; node = d })).last_is.region
 
   -- an expression that is turned on with a region stands right in it
   pub TurnedIn-stands : (r : Region) (e : ℕ) → TurnedIn R r e → (at R e).region ≡ r

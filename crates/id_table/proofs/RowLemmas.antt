@@ -1,24 +1,20 @@
 -- What is true of each row that a form adds.
-use Rattle.std.proofs.Common.{◌≡◌, ◌⊎◌, inl, inr, ◌<◌, ◌≤◌, ◌+◌, ℕ, suc, Bool, true, false, ◌&&◌, not, List, refl, sym}
-use Rattle.std.proofs.Common.{ap, ◌∙◌, subst, arith}
+use Rattle.std.proofs.Common.{◌≡◌, ◌⊎◌, inl, inr, ◌<◌, ◌≤◌, ◌+◌, ℕ, suc, Bool, true, false, ◌&&◌, not, List, refl, sym, ap, ◌∙◌, subst, arith}
 use Rattle.std.proofs.lemmas.Bool.{cases_lt, false≢true}
 use Rattle.id_table.specs.declared.row.Row.{Row}
 use Rattle.id_table.specs.declared.row.Stand.{Stand}
 use Rattle.id_table.specs.declared.row.Node.{Node}
-use Rattle.id_table.specs.declared.row.Node.TheVariants.{Head, Literal, Name, Unary, Binary, Split, If, Enter, Arg}
-use Rattle.id_table.specs.declared.row.Node.TheVariants.{Call, Block, Def, Program}
+use Rattle.id_table.specs.declared.row.Node.TheVariants.{Head, Literal, Name, Unary, Binary, Split, If, Enter, Arg, Call, Block, Def, Program}
 use Rattle.id_table.specs.declared.row.Node.TheVariants.{Start, LoopHead, Variable, Switches, NextUse, Next, Body, Loop}
 use Rattle.id_table.specs.declared.row.Node.TheVariants.{Bounds, Carried, Within, Count, Turn, Index, Span}
 use Rattle.id_table.specs.declared.row.Node.TheVariants.{Array, Fetch, Address, Store}
 use Rattle.id_table.proofs.BlockLemmas.{and_both}
 use Rattle.id_table.specs.Rows.{at, top}
-use Rattle.id_table.specs.Tables.{HasNear, HasOperand, HasPart, begins_block, can_be_on, has_statements, is_block}
-use Rattle.id_table.specs.Tables.{is_expression, is_in_loop}
+use Rattle.id_table.specs.Tables.{HasNear, HasOperand, HasPart, begins_block, can_be_on, has_statements, is_block, is_expression, is_in_loop}
 use Rattle.id_table.specs.Tables.{is_next, is_statement, is_top}
 use Rattle.id_table.specs.Calls.{AreArgs, IsArgIn, IsCallOf, IsEnterOf}
 use Rattle.id_table.specs.Stores.{IsAddressOf, IsStoreOf}
-use Rattle.id_table.specs.Loops.{IsBody, IsLoop, IsLoopOf, IsNextIn, IsNextOf, IsTurn, StandsInSide, behind_count}
-use Rattle.id_table.specs.Loops.{right}
+use Rattle.id_table.specs.Loops.{IsBody, IsLoop, IsLoopOf, IsNextIn, IsNextOf, IsTurn, StandsInSide, behind_count, right}
 use Rattle.id_table.specs.Regions.{AreArms, IsIfOf, IsSplitOf, Lies, StandsInArm, here, in_arm, in_loop, in_side}
 use Rattle.id_table.specs.Turns.{in_block}
 use Rattle.id_table.proofs.HasLemmas.{row_in}
@@ -34,8 +30,7 @@ is_inner _ = true
 abbrev pub is_plain : Node → Bool
 is_plain n = is_inner n && not (is_in_loop n)
 
--- whether besides a row of this node is of no conditional, no call, no loop and no store, or a row between the others
--- of
+-- whether besides a row of this node is of no conditional, no call, no loop and no store, or a row between the others of
 -- one, and gives its own value
 abbrev pub is_simple : Node → Bool
 is_simple (Split t) = false
@@ -130,8 +125,7 @@ pub record IsVariableOf (F : List Row) (i : ℕ) : Type 0 where
   pub next : IsNextOf F row (at F i).block index name
   pub own : (at F i).block + 1 + index ≡ i
 
--- a row of the number i with this node, if it is one of a conditional, a call, a loop or a store, belongs to the others
--- of it
+-- a row of the number i with this node, if it is one of a conditional, a call, a loop or a store, belongs to the others of it
 abbrev pub Belongs : List Row → ℕ → Node → Type 0
 Belongs F i (Split t) = (n : ℕ) × IsIfOf F n i
 Belongs F i (If u x y) = IsSplitOf F u i × AreArms F u x y i
@@ -161,8 +155,7 @@ pub record Fits (F : List Row) (s : Stand) (lo i v : ℕ) (n : Node) : Type 0 wh
   pub value_block : (b : ℕ) → n ≡ Block b → v ≡ (at F b).value
   pub value_self : gives_itself n ≡ true → v ≡ i
   pub value : is_expression n ≡ true → GivesValue F s i v
-  pub statements : has_statements n ≡ true → (b : ℕ) → lo ≤ b → b < i → is_statement (at F b).node ≡ true
-      → in_block F b i ≡ false → StandsHere F s b
+  pub statements : has_statements n ≡ true → (b : ℕ) → lo ≤ b → b < i → is_statement (at F b).node ≡ true → in_block F b i ≡ false → StandsHere F s b
   pub at_top : is_top n ≡ true → s.region ≡ top s.block
   pub heads : begins_block n ≡ true → s.block ≡ i
   pub belongs : Belongs F i n
@@ -347,9 +340,8 @@ module _ (F : List Row) where
   }
 
   -- a row that stands right in q, or further in, stands in s or further in, where q does
-  pub RowIs-within : (s q : Stand) (lo mid i : ℕ) (r : Row) → lo ≤ mid → (q.block ≡ s.block) ⊎ HeadIn F lo i q.block
-      → Lies F s.region q.region → (IsHere q r → IsHere s r ⊎ StandsFurther F i r) → RowIs F q mid i r
-      → RowIs F s lo i r
+  pub RowIs-within : (s q : Stand) (lo mid i : ℕ) (r : Row) → lo ≤ mid → (q.block ≡ s.block) ⊎ HeadIn F lo i q.block → Lies F s.region q.region
+      → (IsHere q r → IsHere s r ⊎ StandsFurther F i r) → RowIs F q mid i r → RowIs F s lo i r
   RowIs-within s q lo mid i r l same lies region h = record {
     low = omega (arith, h.low);
     first = h.first;
@@ -368,8 +360,7 @@ module _ (F : List Row) where
   pub RowsAre-none : (s : Stand) (lo : ℕ) → RowsAre F s lo lo
   RowsAre-none s lo i b c = absurd (omega arith)
 
-  pub RowsAre-both : (s : Stand) (lo mid hi : ℕ) → lo ≤ mid → RowsAre F s lo mid → RowsAre F s mid hi
-      → RowsAre F s lo hi
+  pub RowsAre-both : (s : Stand) (lo mid hi : ℕ) → lo ≤ mid → RowsAre F s lo mid → RowsAre F s mid hi → RowsAre F s lo hi
   RowsAre-both s lo mid hi l g h i b c = elim (cases_lt i mid) [
     | inl d ↦ g i b d
     | inr d ↦ RowIs-within s s lo mid i (at F i) l (inl refl) Lies.here (λ e. inl e) (h i d c)
@@ -383,8 +374,7 @@ module _ (F : List Row) where
 
   -- a row that fits those from its first row on
   pub RowIs-row : (s : Stand) (p lo f i v : ℕ) (n : Node) → at F i ≡ row_in s p f v n → lo ≤ f → f ≤ i
-      → ((j : ℕ) → f ≤ j → j < i → (f ≤ (at F j).first) × StandsWithin F s j)
-      → (is_in_loop n ≡ false) ⊎ HeadIn F lo i s.block → is_inner n ≡ true
+      → ((j : ℕ) → f ≤ j → j < i → (f ≤ (at F j).first) × StandsWithin F s j) → (is_in_loop n ≡ false) ⊎ HeadIn F lo i s.block → is_inner n ≡ true
       → Fits F s f i v n → RowIs F s lo i (at F i)
   RowIs-row s p lo f i v n e l m rows own inner fits = subst (RowIs F s lo i) (sym e) (record {
     low = l;
@@ -399,14 +389,12 @@ module _ (F : List Row) where
   })
 
   -- a row that fits those before it
-  pub RowIs-fits : (s : Stand) (p lo i v : ℕ) (n : Node) → at F i ≡ row_in s p lo v n → lo ≤ i → RowsAre F s lo i
-      → is_plain n ≡ true → Fits F s lo i v n → RowIs F s lo i (at F i)
+  pub RowIs-fits : (s : Stand) (p lo i v : ℕ) (n : Node) → at F i ≡ row_in s p lo v n → lo ≤ i → RowsAre F s lo i → is_plain n ≡ true → Fits F s lo i v n
+      → RowIs F s lo i (at F i)
   RowIs-fits s p lo i v n e l rows plain fits =
-      RowIs-row s p lo lo i v n e (omega arith) l (λ j b c. ((rows j b c).low, (rows j b c).lies))
-      (inl (plain_out n plain)) (plain_inner n plain) fits
+      RowIs-row s p lo lo i v n e (omega arith) l (λ j b c. ((rows j b c).low, (rows j b c).lies)) (inl (plain_out n plain)) (plain_inner n plain) fits
 
-  pub gives_own : (s : Stand) (p lo i : ℕ) (n : Node) → at F i ≡ row_in s p lo i n → is_expression n ≡ true
-      → is_block n ≡ false → GivesValue F s i i
+  pub gives_own : (s : Stand) (p lo i : ℕ) (n : Node) → at F i ≡ row_in s p lo i n → is_expression n ≡ true → is_block n ≡ false → GivesValue F s i i
   gives_own s p lo i n e h plain = record {
     within = omega arith;
     expression = ap (λ (r : Row). is_expression r.node) e ∙ h;
@@ -427,8 +415,8 @@ module _ (F : List Row) where
       }
 
   -- a simple row fits behind its parts
-  pub Fits-simple : (s : Stand) (p lo i : ℕ) (n : Node) → at F i ≡ row_in s p lo i n → is_simple n ≡ true
-      → (is_top n ≡ true → s.region ≡ top s.block) → ((a : ℕ) → HasPart n a → PartIs F s lo i a) → Fits F s lo i i n
+  pub Fits-simple : (s : Stand) (p lo i : ℕ) (n : Node) → at F i ≡ row_in s p lo i n → is_simple n ≡ true → (is_top n ≡ true → s.region ≡ top s.block)
+      → ((a : ℕ) → HasPart n a → PartIs F s lo i a) → Fits F s lo i i n
   Fits-simple s p lo i n e simple high parts =
       let plain = simple_no_block n simple in
       record {

@@ -13,8 +13,7 @@ use Rattle.id_table.proofs.HasLemmas.{row_in}
 use Rattle.id_table.proofs.RowLemmas.{Fits, PartIs, RowIs-fits, RowsAre, RowsAre-both, RowsAre-suc, StandsHere}
 use Rattle.id_table.proofs.ExpressionLemmas.{AreExpression, AreStatement, PartIs-wider, by_store, part_of}
 
--- the rows from lo on are those of a store at the row n: its target's and its index's, the last of which are t and i,
--- its address at
+-- the rows from lo on are those of a store at the row n: its target's and its index's, the last of which are t and i, its address at
 -- a, and its value's, the last of which is v
 pub record StoreRows (F : List Row) (s : Stand) (p lo t i a v n : ℕ) : Type 0 where
   pub within : n < length F
@@ -96,10 +95,8 @@ module _ (F : List Row) (s : Stand) (p lo t i a v n : ℕ) (b : StoreRows F s p 
   address_fits : Fits F s lo a a (Address t i)
   address_fits =
       let parts : (c : ℕ) → HasPart (Address t i) c → PartIs F s lo a c = λ c h. elim h [
-        | inl e ↦ subst (PartIs F s lo a) (sym e)
-            (PartIs-wider F s lo a lo (suc t) t (omega arith) (omega (arith, index_low, address_low)) target_part)
-        | inr e ↦ subst (PartIs F s lo a) (sym e)
-            (PartIs-wider F s lo a (suc t) a i (omega (arith, target_low)) (omega arith) index_part)
+        | inl e ↦ subst (PartIs F s lo a) (sym e) (PartIs-wider F s lo a lo (suc t) t (omega arith) (omega (arith, index_low, address_low)) target_part)
+        | inr e ↦ subst (PartIs F s lo a) (sym e) (PartIs-wider F s lo a (suc t) a i (omega (arith, target_low)) (omega arith) index_part)
       ] in
       record {
         formed = λ c h. let q = parts c h in (q.low, q.before);
@@ -120,12 +117,10 @@ module _ (F : List Row) (s : Stand) (p lo t i a v n : ℕ) (b : StoreRows F s p 
   rows_address : RowsAre F s lo (suc a)
   rows_address =
       RowsAre-suc F s lo a rows_front
-      (RowIs-fits F s p lo a a (Address t i) b.address (omega (arith, target_low, index_low, address_low)) rows_front
-      refl address_fits)
+      (RowIs-fits F s p lo a a (Address t i) b.address (omega (arith, target_low, index_low, address_low)) rows_front refl address_fits)
 
   rows_before : RowsAre F s lo n
-  rows_before =
-      RowsAre-both F s lo (suc a) n (omega (arith, target_low, index_low, address_low)) rows_address b.value.rows
+  rows_before = RowsAre-both F s lo (suc a) n (omega (arith, target_low, index_low, address_low)) rows_address b.value.rows
 
   low : lo ≤ n
   low = omega (arith, target_low, index_low, address_low, value_low, last_low)
@@ -151,8 +146,7 @@ module _ (F : List Row) (s : Stand) (p lo t i a v n : ℕ) (b : StoreRows F s p 
     belongs = is_address_of;
   }
 
-  -- what is true of the target's rows, of the index's, of the address, of the value's and of the store is true of each
-  -- of its rows
+  -- what is true of the target's rows, of the index's, of the address, of the value's and of the store is true of each of its rows
   by_part : (P : ℕ → Type 0) → ((j : ℕ) → lo ≤ j → j < suc t → P j) → ((j : ℕ) → suc t ≤ j → j < a → P j) → P a
       → ((j : ℕ) → suc a ≤ j → j < n → P j) → (j : ℕ) → lo ≤ j → j < n → P j
   by_part P target index address value j c d = elim (cases_lt j (suc t)) [
@@ -164,26 +158,21 @@ module _ (F : List Row) (s : Stand) (p lo t i a v n : ℕ) (b : StoreRows F s p 
   ]
 
   -- its parts are turned on with it
-  turned_before : TurnedIn F s.region n → (j : ℕ) → lo ≤ j → j < n → can_be_on (at F j).node ≡ true
-      → TurnedIn F (at F j).region j
+  turned_before : TurnedIn F s.region n → (j : ℕ) → lo ≤ j → j < n → can_be_on (at F j).node ≡ true → TurnedIn F (at F j).region j
   turned_before on =
       let one : t ≡ b.target.end = omega (arith, b.target.ends) in
       let two : i ≡ b.index.end = omega (arith, b.index.ends, b.index_ends) in
       let three : v ≡ b.value.end = omega (arith, b.value.ends, b.value_ends) in
-      let target_on =
-      subst (TurnedIn F s.region) one (TurnedIn.part on b.within (Turns.address_target store_node address_node)) in
-      let index_on =
-      subst (TurnedIn F s.region) two (TurnedIn.part on b.within (Turns.address_index store_node address_node)) in
+      let target_on = subst (TurnedIn F s.region) one (TurnedIn.part on b.within (Turns.address_target store_node address_node)) in
+      let index_on = subst (TurnedIn F s.region) two (TurnedIn.part on b.within (Turns.address_index store_node address_node)) in
       let value_on = subst (TurnedIn F s.region) three (TurnedIn.part on b.within (Turns.stored_value store_node)) in
       by_part (λ j. can_be_on (at F j).node ≡ true → TurnedIn F (at F j).region j)
-      (b.target.turned target_on) (b.index.turned index_on)
-      (λ k. absurd (false≢true (sym (ap can_be_on address_node) ∙ k))) (b.value.turned value_on)
+      (b.target.turned target_on) (b.index.turned index_on) (λ k. absurd (false≢true (sym (ap can_be_on address_node) ∙ k))) (b.value.turned value_on)
 
   held_before : (j : ℕ) → lo ≤ j → j < n → is_statement (at F j).node ≡ true → in_block F j (suc n) ≡ true
   held_before =
       by_part (λ j. is_statement (at F j).node ≡ true → in_block F j (suc n) ≡ true)
-      (λ j c d k. in_block-more F j (suc t) (suc n) (omega (arith, index_low, address_low, value_low, last_low))
-      (b.target.held j c d k))
+      (λ j c d k. in_block-more F j (suc t) (suc n) (omega (arith, index_low, address_low, value_low, last_low)) (b.target.held j c d k))
       (λ j c d k. in_block-more F j a (suc n) (omega (arith, value_low, last_low)) (b.index.held j c d k))
       (λ k. absurd (false≢true (sym (ap is_statement address_node) ∙ k)))
       (λ j c d k. in_block-more F j n (suc n) (omega arith) (b.value.held j c d k))
@@ -199,8 +188,7 @@ module _ (F : List Row) (s : Stand) (p lo t i a v n : ℕ) (b : StoreRows F s p 
     turned = λ on j c d k. elim (cases_lt j n) [
       | inl f ↦ turned_before on j c f k
       | inr f ↦ let z : n ≡ j = omega arith in
-          subst (λ l. TurnedIn F (at F l).region l) z
-          (subst (λ r. TurnedIn F r n) (sym (ap (λ (r : Row). r.region) b.row)) on)
+          subst (λ l. TurnedIn F (at F l).region l) z (subst (λ r. TurnedIn F r n) (sym (ap (λ (r : Row). r.region) b.row)) on)
     ];
     held = held_before;
   }

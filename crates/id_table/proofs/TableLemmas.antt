@@ -15,8 +15,7 @@ use Rattle.id_table.specs.declared.row.Node.TheVariants.{Body, Reset, Loop, Addr
 use Rattle.id_table.specs.declared.row.Node.TheVariants.{Count, Index, Span}
 use Rattle.id_table.specs.Names.{first_names}
 use Rattle.id_table.specs.Rows.{Parts, add, arm_at, at, in_top, no_row, rows_of, size, top}
-use Rattle.id_table.specs.Tables.{AreInBlocks, Formed, HasNear, HasOperand, HasPart, IsFormed, IsNested, begins_block}
-use Rattle.id_table.specs.Tables.{can_be_on}
+use Rattle.id_table.specs.Tables.{AreInBlocks, Formed, HasNear, HasOperand, HasPart, IsFormed, IsNested, begins_block, can_be_on}
 use Rattle.id_table.specs.Tables.{has_statements, is_address, is_carried, is_in_loop, is_loop, is_next, is_statement}
 use Rattle.id_table.specs.Tables.{is_store, is_arg, is_block, is_call, is_def, is_enter, is_expression, is_head, is_if}
 use Rattle.id_table.specs.Tables.{is_split, is_switches, is_top, is_variable, is_within}
@@ -95,8 +94,7 @@ store_on (Store a v) e = refl
 store_on _ e = absurd (false≢true e)
 
 -- a node of which something is true that is false of heads is no head
-no_head : (f : Node → Bool) → f Head ≡ false → ((t : ℕ) → f (LoopHead t) ≡ false) → (n : Node) → f n ≡ true
-    → begins_block n ≡ false
+no_head : (f : Node → Bool) → f Head ≡ false → ((t : ℕ) → f (LoopHead t) ≡ false) → (n : Node) → f n ≡ true → begins_block n ≡ false
 no_head f a b Head e = absurd (false≢true (sym a ∙ e))
 no_head f a b (LoopHead t) e = absurd (false≢true (sym (b t) ∙ e))
 no_head f a b _ e = refl
@@ -115,12 +113,9 @@ record Begun (F : List Row) : Type 0 where
 -- what lies in a region begins no earlier
 Lies-head : (F : List Row) (q r : Region) → Begun F → Lies F q r → q.head ≤ r.head
 Lies-head F q r before here = omega arith
-Lies-head F q r before (in_arm {s} w e l) =
-    let z = before.split s w e in let y = Lies-head F q (at F s).region before l in omega arith
-Lies-head F q r before (in_loop {h} {s} w e l) =
-    let z = before.loop h s w e in let y = Lies-head F q (at F s).region before l in omega arith
-Lies-head F q r before (in_side {w = u} w e l) =
-    let z = before.switches u w e in let y = Lies-head F q (at F u).region before l in omega arith
+Lies-head F q r before (in_arm {s} w e l) = let z = before.split s w e in let y = Lies-head F q (at F s).region before l in omega arith
+Lies-head F q r before (in_loop {h} {s} w e l) = let z = before.loop h s w e in let y = Lies-head F q (at F s).region before l in omega arith
+Lies-head F q r before (in_side {w = u} w e l) = let z = before.switches u w e in let y = Lies-head F q (at F u).region before l in omega arith
 
 -- a table whose rows but the last stand in procedures, and whose last row is `Program`
 record Ends (F : List Row) (n : ℕ) : Type 0 where
@@ -133,8 +128,7 @@ module _ (F : List Row) (n : ℕ) (h : Ends F n) where
   ends_node = ap (λ (r : Row). r.node) h.last
 
   -- what is true of each row in a procedure and of the last row is true of each
-  by_row : (P : ℕ → Row → Type 0) → ((i : ℕ) → StandsIn F i (at F i) → P i (at F i)) → P n (at F n) → (i : ℕ)
-      → i < length F → P i (at F i)
+  by_row : (P : ℕ → Row → Type 0) → ((i : ℕ) → StandsIn F i (at F i) → P i (at F i)) → P n (at F n) → (i : ℕ) → i < length F → P i (at F i)
   by_row P each end i b = elim (cases_lt i n) [
     | inl l ↦ each i (h.rows i l)
     | inr l ↦ let e : n ≡ i = omega (arith, h.size) in
@@ -161,8 +155,7 @@ module _ (F : List Row) (n : ℕ) (h : Ends F n) where
   Nested-ends : IsNested F
   Nested-ends = record {
     each = λ i j l b f. by_row (λ k r. (m : ℕ) → r.first ≤ m → m < k → r.first ≤ (at F m).first) (λ k s. s.nested)
-        (subst (λ (r : Row). (m : ℕ) → r.first ≤ m → m < n
-        → r.first ≤ (at F m).first) (sym h.last) (λ m g k. omega arith)) j b i f l;
+        (subst (λ (r : Row). (m : ℕ) → r.first ≤ m → m < n → r.first ≤ (at F m).first) (sym h.last) (λ m g k. omega arith)) j b i f l;
   }
 
   def_here : (i : ℕ) → i + 1 < length F → StandsIn F i (at F i)
@@ -189,8 +182,7 @@ module _ (F : List Row) (n : ℕ) (h : Ends F n) where
   branches i u c = belongs i (If u c.then c.otherwise) c.within c.node (λ p. false≢true (sym (ap is_if p)))
 
   -- the region of a row that is no head begins before it
-  region_before : (u : ℕ) → u < length F → ((at F u).node ≡ Program → ⊥) → begins_block (at F u).node ≡ false
-      → (at F u).region.head < u
+  region_before : (u : ℕ) → u < length F → ((at F u).node ≡ Program → ⊥) → begins_block (at F u).node ≡ false → (at F u).region.head < u
   region_before u l other e =
       let q = in_procedure u l other in
       elim q.region [
@@ -212,9 +204,7 @@ module _ (F : List Row) (n : ℕ) (h : Ends F n) where
   loop_rows i u c = belongs i (Loop u c.switches c.last) c.within c.node (λ p. false≢true (sym (ap is_loop p)))
 
   loop_low : (i u : ℕ) → IsLoopOf F i u → u < i
-  loop_low i u c =
-      let z = loop_rows i u c in
-      omega (arith, z.before_test.low, z.test.low, z.test.behind, body_low z.body_is, z.last_is.low, z.last_is.ends)
+  loop_low i u c = let z = loop_rows i u c in omega (arith, z.before_test.low, z.test.low, z.test.behind, body_low z.body_is, z.last_is.low, z.last_is.ends)
 
   -- a part of a loop stands where it ought to
   part_of_loop : (i : ℕ) (m : Node) → i < length F → (at F i).node ≡ m → is_in_loop m ≡ true
@@ -227,14 +217,9 @@ module _ (F : List Row) (n : ℕ) (h : Ends F n) where
       let before : i + 1 < w.0 = elim (cases_lt (i + 1) w.0) [
         | inl f ↦ f
         | inr f ↦ let same : w.1.last + 2 ≡ i = omega (arith, w.2, z.last_is.ends) in
-            absurd (false≢true (sym (ap is_in_loop z.last_is.span) ∙ ap (λ k. is_in_loop (at F k).node) same
-            ∙ ap is_in_loop e ∙ is))
-      ] in (
-        w.0,
-        w.1,
-        subst (λ k. StandsAt (at F i).block z.entries w.1.switches z.turn z.body w.0 k i) e
-            (z.stands i q.block.0 before refl),
-      )
+            absurd (false≢true (sym (ap is_in_loop z.last_is.span) ∙ ap (λ k. is_in_loop (at F k).node) same ∙ ap is_in_loop e ∙ is))
+      ] in
+      (w.0, w.1, subst (λ k. StandsAt (at F i).block z.entries w.1.switches z.turn z.body w.0 k i) e (z.stands i q.block.0 before refl))
 
   -- a `Reset` before the `Span` of a loop names its last expression
   reset_last : (i v m u : ℕ) (c : IsLoopOf F m u) → (at F i).node ≡ Reset v → i + 2 ≡ m → c.last ≡ v
@@ -244,24 +229,21 @@ module _ (F : List Row) (n : ℕ) (h : Ends F n) where
       ap (reset_or 0) (sym z.node ∙ ap (λ k. (at F k).node) same ∙ e)
 
   -- the entry of what is carried on is in a loop with an index, and one of the three behind its head
-  carried_three : (u e c i : ℕ) → AreCarried F u c → ((j : ℕ) → u + c < j → j < e → is_variable (at F j).node ≡ true)
-      → u < i → i < e → is_carried (at F i).node ≡ true → (c ≡ 3) × (i ≤ u + 3)
-  carried_three u e c i nothing each low high is =
-      absurd (carried_no_variable (at F i).node is (each i (omega arith) high))
+  carried_three : (u e c i : ℕ) → AreCarried F u c → ((j : ℕ) → u + c < j → j < e → is_variable (at F j).node ≡ true) → u < i → i < e
+      → is_carried (at F i).node ≡ true → (c ≡ 3) × (i ≤ u + 3)
+  carried_three u e c i nothing each low high is = absurd (carried_no_variable (at F i).node is (each i (omega arith) high))
   carried_three u e c i (an_index a b d) each low high is = elim (cases_lt (u + 3) i) [
     | inl l ↦ absurd (carried_no_variable (at F i).node is (each i l high))
     | inr l ↦ (refl, l)
   ]
 
   carried_at : (i : ℕ) → i < length F → is_carried (at F i).node ≡ true
-      → (m : ℕ) × (c : IsLoopOf F m (at F i).block) × ((loop_rows m (at F i).block c).carried ≡ 3)
-      × (i ≤ (at F i).block + 3)
+      → (m : ℕ) × (c : IsLoopOf F m (at F i).block) × ((loop_rows m (at F i).block c).carried ≡ 3) × (i ≤ (at F i).block + 3)
   carried_at i l is =
       let k = carried_node (at F i).node is in
       let w = part_of_loop i (Carried k.0) l k.1 refl in
       let z = loop_rows w.0 (at F i).block w.1 in
-      let y = carried_three (at F i).block z.entries z.carried i z.before_test.carried z.before_test.variable w.2.0
-      w.2.1 is in
+      let y = carried_three (at F i).block z.entries z.carried i z.before_test.carried z.before_test.variable w.2.0 w.2.1 is in
       (w.0, w.1, y.0, y.1)
 
   within_three : (u t c f : ℕ) → IsTest F u t c → (at F t).node ≡ Within f → c ≡ 3
@@ -269,44 +251,33 @@ module _ (F : List Row) (n : ℕ) (h : Ends F n) where
   within_three u t c f (flag is) e = refl
 
   within_at : (i f : ℕ) → i < length F → (at F i).node ≡ Within f
-      → (m : ℕ) × (c : IsLoopOf F m (at F i).block) × ((loop_rows m (at F i).block c).carried ≡ 3)
-      × (i + 1 ≡ c.switches)
+      → (m : ℕ) × (c : IsLoopOf F m (at F i).block) × ((loop_rows m (at F i).block c).carried ≡ 3) × (i + 1 ≡ c.switches)
   within_at i f l e =
       let w = part_of_loop i (Within f) l e refl in
       let z = loop_rows w.0 (at F i).block w.1 in
-      let same : i ≡ z.test.test = omega (arith, w.2, z.test.behind) in (
-        w.0,
-        w.1,
-        within_three (at F i).block z.test.test z.carried f z.test.test_is (sym (ap (λ k. (at F k).node) same) ∙ e),
-        w.2,
-      )
+      let same : i ≡ z.test.test = omega (arith, w.2, z.test.behind) in
+      (w.0, w.1, within_three (at F i).block z.test.test z.carried f z.test.test_is (sym (ap (λ k. (at F k).node) same) ∙ e), w.2)
 
   count_three : (w t c : ℕ) → IsTurn F w t c → (at F t).node ≡ Turn → (at F (w + 1)).node ≡ Count → c ≡ 3
-  count_three w t c (right s) e f =
-      absurd (false≢true (sym (ap is_turn f) ∙ ap (λ k. is_turn (at F k).node) (sym s) ∙ ap is_turn e))
+  count_three w t c (right s) e f = absurd (false≢true (sym (ap is_turn f) ∙ ap (λ k. is_turn (at F k).node) (sym s) ∙ ap is_turn e))
   count_three w t c (behind_count s a b) e f = refl
 
   count_at : (i : ℕ) → i < length F → (at F i).node ≡ Count
-      → (m : ℕ) × (c : IsLoopOf F m (at F i).block) × ((loop_rows m (at F i).block c).carried ≡ 3)
-      × (c.switches + 1 ≡ i)
+      → (m : ℕ) × (c : IsLoopOf F m (at F i).block) × ((loop_rows m (at F i).block c).carried ≡ 3) × (c.switches + 1 ≡ i)
   count_at i l e =
       let w = part_of_loop i Count l e refl in
       let z = loop_rows w.0 (at F i).block w.1 in
-      let three =
-      count_three w.1.switches z.turn z.carried z.body_is.turns z.body_is.turn (ap (λ k. (at F k).node) (sym w.2)
-      ∙ e) in
+      let three = count_three w.1.switches z.turn z.carried z.body_is.turns z.body_is.turn (ap (λ k. (at F k).node) (sym w.2) ∙ e) in
       (w.0, w.1, three, sym w.2)
 
   index_at : (i x : ℕ) → i < length F → (at F i).node ≡ Index x
-      → (m : ℕ) × (c : IsLoopOf F m (at F i).block) × ((loop_rows m (at F i).block c).carried ≡ 3)
-      × (c.switches + 3 ≡ i)
+      → (m : ℕ) × (c : IsLoopOf F m (at F i).block) × ((loop_rows m (at F i).block c).carried ≡ 3) × (c.switches + 3 ≡ i)
   index_at i x l e =
       let w = part_of_loop i (Index x) l e refl in
       let z = loop_rows w.0 (at F i).block w.1 in
       let y = belongs i (Index x) l e (λ p. false≢true (sym (ap is_in_loop p))) in
       let same : w.1.switches + 1 ≡ y.0 = omega (arith, w.2, y.2) in
-      let three =
-      count_three w.1.switches z.turn z.carried z.body_is.turns z.body_is.turn (ap (λ k. (at F k).node) same ∙ y.1) in
+      let three = count_three w.1.switches z.turn z.carried z.body_is.turns z.body_is.turn (ap (λ k. (at F k).node) same ∙ y.1) in
       (w.0, w.1, three, sym w.2)
 
   bounds_three : (u m c i : ℕ) → Begins F u m c → i + 1 ≡ u → (at F m).first ≤ i → c ≡ 3
@@ -325,8 +296,7 @@ module _ (F : List Row) (n : ℕ) (h : Ends F n) where
   test_expression u t c (predicate is) e = is
   test_expression u t c (flag is) e = absurd (false≢true (sym e ∙ ap is_within is))
 
-  test_at : (w t : ℕ) → w < length F → (at F w).node ≡ Switches t → is_within (at F t).node ≡ false
-      → is_expression (at F t).node ≡ true
+  test_at : (w t : ℕ) → w < length F → (at F w).node ≡ Switches t → is_within (at F t).node ≡ false → is_expression (at F t).node ≡ true
   test_at w t l e off =
       let c = belongs w (Switches t) l e (λ p. false≢true (sym (ap is_switches p))) in
       let z = (loop_rows c.loop (at F w).block c.of).test in
@@ -359,15 +329,10 @@ module _ (F : List Row) (n : ℕ) (h : Ends F n) where
   ]
 
   -- a `next` statement stands in the body of its loop
-  next_inside : (m u k x : ℕ) (s : IsNextOf F m u k x)
-      → (n : ℕ) × (c : IsLoopOf F n u) × IsNextIn F n m u c.switches k x s.outer
+  next_inside : (m u k x : ℕ) (s : IsNextOf F m u k x) → (n : ℕ) × (c : IsLoopOf F n u) × IsNextIn F n m u c.switches k x s.outer
   next_inside m u k x s =
       let q = belongs m (Next x k s.outer s.value) s.within s.node (λ p. false≢true (sym (ap is_next p))) in
-      subst (λ g. (n : ℕ) × (c : IsLoopOf F n g) × IsNextIn F n m g c.switches k x s.outer) s.block (
-        q.loop,
-        q.of,
-        q.inside,
-      )
+      subst (λ g. (n : ℕ) × (c : IsLoopOf F n g) × IsNextIn F n m g c.switches k x s.outer) s.block (q.loop, q.of, q.inside)
 
   next_low : (m u k x : ℕ) (s : IsNextOf F m u k x) → u < m
   next_low m u k x s =
@@ -382,16 +347,13 @@ module _ (F : List Row) (n : ℕ) (h : Ends F n) where
       let v = next_inside m u k x a in
       let w = next_inside l u k y b in
       let same = loop_once w.0 v.0 u w.1 v.1 in
-      (loop_rows v.0 u v.1).once m l k x y (next_low m u k x a) v.2.behind (next_low l u k y b)
-      (omega (arith, w.2.behind, same)) a b
+      (loop_rows v.0 u v.1).once m l k x y (next_low m u k x a) v.2.behind (next_low l u k y b) (omega (arith, w.2.behind, same)) a b
 
   begun : Begun F
   begun = record {
     split = λ u l e. region_before u l (not_end is_split refl u e) (no_head is_split refl (λ t. refl) (at F u).node e);
     loop = loop_before;
-    switches =
-        λ u l e. region_before u l (not_end is_switches refl u e)
-        (no_head is_switches refl (λ t. refl) (at F u).node e);
+    switches = λ u l e. region_before u l (not_end is_switches refl u e) (no_head is_switches refl (λ t. refl) (at F u).node e);
   }
 
   -- of two conditionals of one split none is behind the other
@@ -401,8 +363,7 @@ module _ (F : List Row) (n : ℕ) (h : Ends F n) where
       let b = branches k u e in
       let low : u < m = omega (arith, a.1.low, a.1.next, a.1.ends) in
       let in_one : (side : Bool) → InArm u e.then k side m → ⊥ = λ side among.
-      let z = Lies-head F (arm_at u side) (at F u).region begun
-      (subst (Lies F (arm_at u side)) (sym a.0.region) (b.1.each side m among)) in
+      let z = Lies-head F (arm_at u side) (at F u).region begun (subst (Lies F (arm_at u side)) (sym a.0.region) (b.1.each side m among)) in
       let y = begun.split u (omega (arith, low, d.within)) (ap is_split a.0.node) in
       omega arith in
       elim (cases_lt e.then m) [ inl f ↦ in_one false (f, l) | inr f ↦ in_one true (low, f) ]
@@ -411,8 +372,7 @@ module _ (F : List Row) (n : ℕ) (h : Ends F n) where
   params_at_def : (i g : ℕ) → IsDefOf F i g → AreParamsOf F g i
   params_at_def i g d =
       let first = (head_at i d.name g d.body d.result d.within d.node).1 in
-      subst (λ h. AreParamsOf F h i) first
-      ((in_procedure i d.within (not_end is_def refl i (ap is_def d.node))).params (ap is_def d.node))
+      subst (λ h. AreParamsOf F h i) first ((in_procedure i d.within (not_end is_def refl i (ap is_def d.node))).params (ap is_def d.node))
 
   in_call : (i u : ℕ) (c : IsCallOf F i u) → IsEnterOf F u i × AreArgs F u i c.count
   in_call i u c = belongs i (Call u c.count) c.within c.node (λ p. false≢true (sym (ap is_call p)))
@@ -435,8 +395,7 @@ module _ (F : List Row) (n : ℕ) (h : Ends F n) where
       let v = arg_belongs m u k a in
       let w = arg_belongs l u k b in
       let same = call_once w.row v.row u w.call v.call in
-      (in_call v.row u v.call).1.once m l k v.stands.after v.stands.before w.stands.after
-      (omega (arith, w.stands.before, same)) a b
+      (in_call v.row u v.call).1.once m l k v.stands.after v.stands.before w.stands.after (omega (arith, w.stands.before, same)) a b
 
   address_in : (i a : ℕ) (c : IsStoreOf F i a) → IsAddressOf F a i c.value
   address_in i a c = belongs i (Store a c.value) c.within c.node (λ p. false≢true (sym (ap is_store p)))
@@ -447,8 +406,7 @@ module _ (F : List Row) (n : ℕ) (h : Ends F n) where
     | inr l ↦ elim (cases_lt k m) [ inl f ↦ absurd (later k m e d f) | inr f ↦ omega arith ]
   ]
     where
-      -- of two stores of one `Address` none is behind the other: it would stand in the other's value, which begins
-      -- behind the `Address`
+      -- of two stores of one `Address` none is behind the other: it would stand in the other's value, which begins behind the `Address`
       later : (m k : ℕ) (d : IsStoreOf F m a) → IsStoreOf F k a → m < k → ⊥
       later m k d e l =
           let x = address_in m a d in
@@ -456,8 +414,7 @@ module _ (F : List Row) (n : ℕ) (h : Ends F n) where
           let less = (Formed-ends.each a (omega (arith, x.before, x.value_behind, d.within))).first in
           elim (cases_lt m e.value) [
             | inl f ↦
-                let z = Nested-ends.each m e.value f (omega (arith, y.value_behind, e.within))
-                (omega (arith, y.value_first, x.before, x.value_behind)) in
+                let z = Nested-ends.each m e.value f (omega (arith, y.value_behind, e.within)) (omega (arith, y.value_first, x.before, x.value_behind)) in
                 omega (arith, z, y.value_first, x.first, less)
             | inr f ↦ let z : e.value ≡ m = omega (arith, f, l, y.value_behind) in
                 omega (arith, ap (λ j. (at F j).first) z, y.value_first, x.first, less)
@@ -468,8 +425,7 @@ module _ (F : List Row) (n : ℕ) (h : Ends F n) where
     formed = Formed-ends;
     nested = Nested-ends;
     ends = let e : length F - 1 ≡ n = omega (arith, h.size) in ap (λ k. (at F k).node) e ∙ ends_node;
-    ends_once =
-        λ i b e. elim (cases_lt i n) [ inl l ↦ absurd ((h.rows i l).no_program e) | inr l ↦ omega (arith, h.size) ];
+    ends_once = λ i b e. elim (cases_lt i n) [ inl l ↦ absurd ((h.rows i l).no_program e) | inr l ↦ omega (arith, h.size) ];
     some = omega (arith, h.size);
     block = λ i b. (def_here i b).block;
     region = λ i b. (def_here i b).region;
@@ -483,17 +439,12 @@ module _ (F : List Row) (n : ℕ) (h : Ends F n) where
         q.fits.statements e.block b w.0 w.1 e.statement e.right;
     operand_is = λ i a l e. (in_procedure i l (λ p. subst (λ m. HasOperand m a) p e)).fits.operand_is a e;
     test_is = λ w t l e off. test_at w t l e off;
-    head_place =
-        λ i g d. (in_procedure i d.within (not_end is_def refl i (ap is_def d.node))).head_place d.name g d.body
-        d.result d.node;
+    head_place = λ i g d. (in_procedure i d.within (not_end is_def refl i (ap is_def d.node))).head_place d.name g d.body d.result d.node;
     head_is = λ i x g b k l e. head_at i x g b k l e;
     params = λ i g d. params_at_def i g d;
     has_def = λ g l e. let s = in_procedure g l (not_end is_head refl g (ap is_head e)) in
-        let own = s.fits.heads (ap begins_block e) in (
-          s.def_of.row,
-          subst (IsDefOf F s.def_of.row) (sym (s.def_of.block (ap (λ k. is_head (at F k).node) own ∙ ap is_head e))
-              ∙ own) s.def_of.def,
-        );
+        let own = s.fits.heads (ap begins_block e) in
+        (s.def_of.row, subst (IsDefOf F s.def_of.row) (sym (s.def_of.block (ap (λ k. is_head (at F k).node) own ∙ ap is_head e)) ∙ own) s.def_of.def);
     def_of = λ i b. (def_here i b).def_of;
     one_def = λ m k g d e. elim (cases_lt m k) [
       | inl l ↦ absurd (no_later m k g d e l)
@@ -517,9 +468,7 @@ module _ (F : List Row) (n : ℕ) (h : Ends F n) where
     address_of = λ i a c. address_in i a c;
     in_loop = λ i t b e. (def_here i b).in_loop t e;
     has_loop = λ u t l e. loop_at u t l e;
-    switches_of =
-        λ u t l e. let c =
-        belongs u (Switches t) l e (λ p. false≢true (sym (ap is_switches p))) in (c.loop, c.of, c.own);
+    switches_of = λ u t l e. let c = belongs u (Switches t) l e (λ p. false≢true (sym (ap is_switches p))) in (c.loop, c.of, c.own);
     entries_of = λ i l e. let w = part_of_loop i Entries l e refl in (w.0, w.1, sym w.2);
     turn_of = λ i l e. let w = part_of_loop i Turn l e refl in (w.0, w.1, sym w.2);
     bounds_of = λ i a b l e. bounds_at i a b l e;
@@ -528,16 +477,13 @@ module _ (F : List Row) (n : ℕ) (h : Ends F n) where
     count_of = λ i l e. count_at i l e;
     index_of = λ i x l e. index_at i x l e;
     body_of = λ i l e. let w = part_of_loop i Body l e refl in (w.0, w.1, sym w.2);
-    reset_of =
-        λ i v l e. let w =
-        part_of_loop i (Reset v) l e refl in (w.0, w.1, reset_last i v w.0 (at F i).block w.1 e w.2, w.2);
+    reset_of = λ i v l e. let w = part_of_loop i (Reset v) l e refl in (w.0, w.1, reset_last i v w.0 (at F i).block w.1 e w.2, w.2);
     one_loop = λ m k u d e. loop_once m k u d e;
     loop_is = λ i u c. loop_rows i u c;
     start_of_loop = λ u l e. belongs u Start l e (λ p. false≢true (sym (ap is_start p)));
     span_of_loop = λ i l e. belongs i Span l e (λ p. false≢true (sym (ap is_span p)));
     loop_of = λ i l e. (in_procedure i l (not_end is_in_loop refl i e)).loop_of e;
-    use_of = λ o x l e. let v =
-        belongs o (NextUse x) l e (λ p. false≢true (sym (ap is_in_loop p))) in (v.row, v.index, v.next, v.own);
+    use_of = λ o x l e. let v = belongs o (NextUse x) l e (λ p. false≢true (sym (ap is_in_loop p))) in (v.row, v.index, v.next, v.own);
     next_in = λ m u k x s. next_inside m u k x s;
     has_next = λ i l e.
         let v = belongs i Variable l (variable_node (at F i).node e) (λ p. false≢true (sym (ap is_variable p))) in
@@ -563,12 +509,7 @@ IsTable-rows_of t d =
     let F = rows_of t in
     let r = row_for T.rows (in_top 0) 0 0 Program in
     let rows = Are-add F (in_top 0) start d (Has-push F T.rows r (Has-itself F)) in
-    IsTable-ends F (size T) (record {
-      size = push-size T.rows r;
-      rows = λ i l. rows i (omega arith) l;
-      last =
-          at-push F T.rows r (Has-itself F);
-    })
+    IsTable-ends F (size T) (record { size = push-size T.rows r; rows = λ i l. rows i (omega arith) l; last = at-push F T.rows r (Has-itself F) })
 
 -- ---- blocks
 
@@ -593,8 +534,7 @@ AreInBlocks-table t table = record {
     last : (r : Row) (i : ℕ) → length T.rows ≡ i → (at (T.rows ++ r ∷ []) i).block ≡ r.block
     last r i e = ap (λ (q : Row). q.block) (get_or_push T.rows r no_row i e)
 
-    by : (i : ℕ) → i < length (rows_of t) → (i + 1 < length (rows_of t)) ⊎ (length (rows_of t) ≤ i + 1)
-        → (at (rows_of t) i).block ≤ i
+    by : (i : ℕ) → i < length (rows_of t) → (i + 1 < length (rows_of t)) ⊎ (length (rows_of t) ≤ i + 1) → (at (rows_of t) i).block ≤ i
     by i less (inl c) = (table.block i c).0
     by i less (inr c) =
         let long : length (rows_of t) ≡ length T.rows + 1 = length_push T.rows _ in

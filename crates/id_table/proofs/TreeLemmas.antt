@@ -1,9 +1,7 @@
 -- The tree of a program is one.
 use Rattle.std.proofs.Common.{List, [], ◌∷◌}
-use Rattle.id_grammar.specs.declared.tree.Expr.{Expr, Literal, Unary', Binary', Name, If', Call', Block', Loop', For'}
-use Rattle.id_grammar.specs.declared.tree.Expr.{Array', Fetch'}
-use Rattle.id_grammar.specs.declared.tree.Expr.{Row_of-Expr, end_of-Expr, more_of-Expr, Row_of-Stmt, end_of-Stmt}
-use Rattle.id_grammar.specs.declared.tree.Expr.{more_of-Stmt}
+use Rattle.id_grammar.specs.declared.tree.Expr.{Expr, Literal, Unary', Binary', Name, If', Call', Block', Loop', For', Array', Fetch'}
+use Rattle.id_grammar.specs.declared.tree.Expr.{Row_of-Expr, end_of-Expr, more_of-Expr, Row_of-Stmt, end_of-Stmt, more_of-Stmt}
 use Rattle.id_grammar.specs.declared.tree.Stmt.{Binding, Next, Store'}
 use Rattle.id_grammar.specs.declared.tree.Param.{Param}
 use Rattle.id_grammar.specs.declared.tree.Def.{Def}
@@ -11,8 +9,7 @@ use Rattle.id_grammar.specs.declared.tree.Program.{Program}
 use Rattle.id_grammar.specs.Tree.{tree_of, args_tree, row_tree, params_tree, defs_tree, program_tree}
 use Rattle.id_table.specs.Trees.{IsTree, IsProgramTree, Expression, Arguments, Statements, Params}
 use Rattle.id_table.specs.Trees.{Defs, by_literal, by_unary, by_binary, by_name, by_conditional}
-use Rattle.id_table.specs.Trees.{by_call, by_loop, by_for, by_array, by_fetch, next_statement, store_statement}
-use Rattle.id_table.specs.Trees.{no_arguments, more_arguments}
+use Rattle.id_table.specs.Trees.{by_call, by_loop, by_for, by_array, by_fetch, next_statement, store_statement, no_arguments, more_arguments}
 use Rattle.id_table.specs.Trees.{by_block, no_statements, more_statements, no_params, more_params, no_defs, more_defs}
 
 mutual
@@ -24,8 +21,7 @@ mutual
   IsTree-tree_of (If' place p a b c) = by_conditional (IsTree-tree_of a) (IsTree-tree_of b) (IsTree-tree_of c)
   IsTree-tree_of (Call' place p x n args) = by_call (IsTree-args_tree args)
   IsTree-tree_of (Block' place p n statements body) = by_block (IsTree-row_tree statements) (IsTree-tree_of body)
-  IsTree-tree_of (Loop' place p test n statements last) =
-      by_loop (IsTree-tree_of test) (IsTree-row_tree statements) (IsTree-tree_of last)
+  IsTree-tree_of (Loop' place p test n statements last) = by_loop (IsTree-tree_of test) (IsTree-row_tree statements) (IsTree-tree_of last)
   IsTree-tree_of (For' place p x q low high n statements last) =
       by_for (IsTree-tree_of low) (IsTree-tree_of high) (IsTree-row_tree statements) (IsTree-tree_of last)
   IsTree-tree_of (Array' place nested p a b) = by_array (IsTree-tree_of a) (IsTree-tree_of b)
@@ -37,10 +33,8 @@ mutual
 
   IsTree-row_tree : {n : _} (ss : Row_of-Stmt n) → IsTree Statements (row_tree ss)
   IsTree-row_tree end_of-Stmt = no_statements
-  IsTree-row_tree (more_of-Stmt (Binding place x value) rest) =
-      more_statements (IsTree-tree_of value) (IsTree-row_tree rest)
-  IsTree-row_tree (more_of-Stmt (Next place x value) rest) =
-      next_statement (IsTree-tree_of value) (IsTree-row_tree rest)
+  IsTree-row_tree (more_of-Stmt (Binding place x value) rest) = more_statements (IsTree-tree_of value) (IsTree-row_tree rest)
+  IsTree-row_tree (more_of-Stmt (Next place x value) rest) = next_statement (IsTree-tree_of value) (IsTree-row_tree rest)
   IsTree-row_tree (more_of-Stmt (Store' place p a b c) rest) =
       store_statement (IsTree-tree_of a) (IsTree-tree_of b) (IsTree-tree_of c) (IsTree-row_tree rest)
 

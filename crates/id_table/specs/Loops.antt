@@ -16,7 +16,7 @@ use Rattle.id_table.specs.Tables.{is_expression, is_variable}
 abbrev pub bounds_row : ℕ → ℕ
 bounds_row h = h - 2
 
--- the lower bound of an index whose bounds are a row of this node, if it is such a row
+-- the lower and the upper bound of an index whose bounds are a row of this node, if it is such a row
 abbrev pub lower_of : Node → Option ℕ
 lower_of (Bounds a b) = Some a
 lower_of _ = None
@@ -26,7 +26,7 @@ abbrev pub upper_of : Node → Option ℕ
 upper_of (Bounds a b) = Some b
 upper_of _ = None
 
--- the lower bound of the index of the loop with the head h, if it has one
+-- those of the index of the loop with the head h, if it has one
 abbrev pub lower_at : List Row → ℕ → Option ℕ
 lower_at R h = lower_of (at R (bounds_row h)).node
 

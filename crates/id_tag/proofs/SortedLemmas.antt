@@ -1,8 +1,7 @@
 -- What a sort by key leaves of a table's entries is what a finite map lists.
 use Rattle.std.proofs.Common.{◌≡◌, ℕ, ◌+◌, ◌<◌, Bool, true, false, cond, ◌&&◌, T, List, [], ◌∷◌, map, length, get_or}
 use Rattle.std.proofs.Common.{Option, Some, None, refl, sym, ◌∙◌, ap, subst, arith}
-use Rattle.std.specs.FinMap.{find, entries, from_entries, from_sorted, is_sorted, get-from_entries, get-from_sorted}
-use Rattle.std.specs.FinMap.{entries-from_sorted, same_map}
+use Rattle.std.specs.FinMap.{find, entries, from_entries, from_sorted, is_sorted, get-from_entries, get-from_sorted, entries-from_sorted, same_map}
 use Rattle.std.specs.FinMap.Entries.{below_all}
 use Rattle.std.specs.List.{IsDistinct, AllByRecursion, Contains, slice_get}
 use Rattle.std.specs.List.Sorted.{IsPermutation, IsSortedByKey, IsStrictlySortedBy}
@@ -14,8 +13,7 @@ use Rattle.std.specs.declared.cmp.Ordering.TheVariants.{Less, Equal, Greater}
 use Rattle.std.proofs.lemmas.List.{get_or-map, length-map}
 use Rattle.std.proofs.lemmas.List.Sorted.{IsPermutation-map, IsPermutation-sym, Contains-permutation}
 use Rattle.std.proofs.lemmas.Map.Entries.{place_from_lookup, lookup_from_place}
-use Rattle.std.proofs.lemmas.Map.Keys.{IsDistinct-IsPermutation, apart_from_distinct, sorted_from_all_adjacent}
-use Rattle.std.proofs.lemmas.Map.Keys.{sorted_head, sorted_tail}
+use Rattle.std.proofs.lemmas.Map.Keys.{IsDistinct-IsPermutation, apart_from_distinct, sorted_from_all_adjacent, sorted_head, sorted_tail}
 use Rattle.std.proofs.lemmas.Map.Lookups.{CmpEqualImpliesEq}
 use Rattle.std.proofs.lemmas.Option.{slice_get_within, get_or_from_slice_get, slice_get-get_or}
 
@@ -33,14 +31,12 @@ both : (a b : Bool) → T a → T b → T (a && b)
 both true b p q = q
 both false b p q = p
 
-same_found : {X : Type 0} (o r : Option X) → ((x : X) → o ≡ Some x → r ≡ Some x) → ((x : X) → r ≡ Some x → o ≡ Some x)
-    → o ≡ r
+same_found : {X : Type 0} (o r : Option X) → ((x : X) → o ≡ Some x → r ≡ Some x) → ((x : X) → r ≡ Some x → o ≡ Some x) → o ≡ r
 same_found None None f g = refl
 same_found None (Some x) f g = g x refl
 same_found (Some x) r f g = sym (f x refl)
 
-rises_at : {K : Type 0} (R : K → K → Ordering) → IsTotalOrder R → (a b : K) → eq_by_cmp R a b ≡ false
-    → is_lt (R b a) ≡ false → R a b ≡ Less
+rises_at : {K : Type 0} (R : K → K → Ordering) → IsTotalOrder R → (a b : K) → eq_by_cmp R a b ≡ false → is_lt (R b a) ≡ false → R a b ≡ Less
 rises_at R total a b apart h = rises (R a b) apart (ap is_lt (sym (total.antisymm b a)) ∙ h)
 
 module _ {K X : Type 0} (R : K → K → Ordering) (total : IsTotalOrder R) (exact : CmpEqualImpliesEq R) where
@@ -52,21 +48,16 @@ module _ {K X : Type 0} (R : K → K → Ordering) (total : IsTotalOrder R) (exa
       → lookup (eq_by_cmp R q) es ≡ Some x → lookup (eq_by_cmp R q) fs ≡ Some x
   found_in es fs perm distinct q x found =
       let place = place_from_lookup (eq_by_cmp R q) es x found in
-      let here : Contains es (place.1, x) = (
-        place.0,
-        slice_get_within es place.0 (place.1, x) place.2,
-        get_or_from_slice_get es place.0 (place.1, x) (place.1, x) place.2,
-      ) in
+      let here : Contains es (place.1, x) =
+      (place.0, slice_get_within es place.0 (place.1, x) place.2, get_or_from_slice_get es place.0 (place.1, x) (place.1, x) place.2) in
       let there : Contains fs (place.1, x) = Contains-permutation es fs (place.1, x) perm here in
-      let at : slice_get fs there.0 ≡ Some (place.1, x) =
-      slice_get-get_or fs there.0 (place.1, x) there.1 ∙ ap Some there.2 in
+      let at : slice_get fs there.0 ≡ Some (place.1, x) = slice_get-get_or fs there.0 (place.1, x) there.1 ∙ ap Some there.2 in
       let one : q ≡ place.1 = exact q place.1 (equal (R q place.1) place.3) in
-      ap (λ k. lookup (eq_by_cmp R k) fs) one
-      ∙ lookup_from_place (eq_by_cmp_equiv total) fs there.0 place.1 x distinct at
+      ap (λ k. lookup (eq_by_cmp R k) fs) one ∙ lookup_from_place (eq_by_cmp_equiv total) fs there.0 place.1 x distinct at
 
   -- entries in another order say the same of each key
-  lookup-IsPermutation : (es fs : List (K × X)) → IsPermutation es fs → IsDistinct (eq_by_cmp R) (keys_of es)
-      → IsDistinct (eq_by_cmp R) (keys_of fs) → (q : K) → lookup (eq_by_cmp R q) es ≡ lookup (eq_by_cmp R q) fs
+  lookup-IsPermutation : (es fs : List (K × X)) → IsPermutation es fs → IsDistinct (eq_by_cmp R) (keys_of es) → IsDistinct (eq_by_cmp R) (keys_of fs)
+      → (q : K) → lookup (eq_by_cmp R q) es ≡ lookup (eq_by_cmp R q) fs
   lookup-IsPermutation es fs perm d e q =
       same_found _ _ (found_in es fs perm e q) (found_in fs es (IsPermutation-sym es fs perm) d q)
 
@@ -77,8 +68,7 @@ module _ {K X : Type 0} (R : K → K → Ordering) (total : IsTotalOrder R) (exa
   is_sorted-keys_of : (es : List (K × X)) → IsStrictlySortedBy R (keys_of es) → T (is_sorted R es)
   is_sorted-keys_of [] s = tt
   is_sorted-keys_of (e ∷ es) s =
-      both _ _ (below e.0 es (sorted_head R e.0 (keys_of es) s))
-      (is_sorted-keys_of es (sorted_tail R e.0 (keys_of es) s))
+      both _ _ (below e.0 es (sorted_head R e.0 (keys_of es) s)) (is_sorted-keys_of es (sorted_tail R e.0 (keys_of es) s))
 
   module _ {A : Type 0} (key : A → K) (value : A → X) where
     abbrev pub paired : A → K × X
@@ -90,21 +80,18 @@ module _ {K X : Type 0} (R : K → K → Ordering) (total : IsTotalOrder R) (exa
 
     -- neighbours of a list in order, whose keys differ
     adjacent : (a : A) (fs : List A) → IsDistinct (eq_by_cmp R) (map key fs) → IsSortedByKey key R fs
-        → (k : ℕ) → k + 1 < length (map key fs)
-        → R (get_or (map key fs) k (key a)) (get_or (map key fs) (k + 1) (key a)) ≡ Less
+        → (k : ℕ) → k + 1 < length (map key fs) → R (get_or (map key fs) k (key a)) (get_or (map key fs) (k + 1) (key a)) ≡ Less
     adjacent a fs distinct sorted k h =
         let inside : k + 1 < length fs = omega (arith, length-map fs key) in
         let first : k < length fs = omega arith in
         let here : get_or (map key fs) k (key a) ≡ key (get_or fs k a) = get_or-map key fs k a (key a) first in
-        let next : get_or (map key fs) (k + 1) (key a) ≡ key (get_or fs (k + 1) a) =
-        get_or-map key fs (k + 1) a (key a) inside in
+        let next : get_or (map key fs) (k + 1) (key a) ≡ key (get_or fs (k + 1) a) = get_or-map key fs (k + 1) a (key a) inside in
         let apart = apart_from_distinct (eq_by_cmp R) (map key fs) k (k + 1) (key a) distinct (omega arith) h in
         rises_at R total (get_or (map key fs) k (key a)) (get_or (map key fs) (k + 1) (key a)) apart
         (ap (λ j. is_lt (R j (get_or (map key fs) k (key a)))) next
         ∙ ap (λ j. is_lt (R (key (get_or fs (k + 1) a)) j)) here ∙ sorted k a (omega arith) inside)
 
-    in_order : (fs : List A) → IsDistinct (eq_by_cmp R) (map key fs) → IsSortedByKey key R fs
-        → T (is_sorted R (map paired fs))
+    in_order : (fs : List A) → IsDistinct (eq_by_cmp R) (map key fs) → IsSortedByKey key R fs → T (is_sorted R (map paired fs))
     in_order [] distinct sorted = tt
     in_order (a ∷ fs) distinct sorted =
         is_sorted-keys_of (map paired (a ∷ fs))
@@ -119,8 +106,7 @@ module _ {K X : Type 0} (R : K → K → Ordering) (total : IsTotalOrder R) (exa
         let apart : IsDistinct (eq_by_cmp R) (keys_of gs) =
         IsDistinct-IsPermutation (eq_by_cmp R) (eq_by_cmp_equiv total).symm (keys_of es) (keys_of gs)
         (IsPermutation-map (λ (e : K × X). e.0) es gs perm) distinct in
-        let ordered : T (is_sorted R gs) =
-        in_order fs (subst (IsDistinct (eq_by_cmp R)) (keys_of-paired fs) apart) sorted in
+        let ordered : T (is_sorted R gs) = in_order fs (subst (IsDistinct (eq_by_cmp R)) (keys_of-paired fs) apart) sorted in
         let one : from_entries {R = R} es ≡ from_sorted gs =
         same_map total exact _ _
         (λ q. get-from_entries total es q ∙ find-lookup es q ∙ lookup-IsPermutation es gs perm distinct apart q

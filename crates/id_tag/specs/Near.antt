@@ -12,7 +12,7 @@ nothing_read = record { mixed = 0x243f_6a88_85a3_08d3; shift = 0 }
 abbrev pub shift_of : ℕ → ℕ
 shift_of lowest = lowest % 64 + lowest / 64 * 0x9e37_79b1
 
--- the number of the four bytes from place i on, the lowest first
+-- the number of four bytes, and of eight, the lowest first
 abbrev pub half : List ℕ → ℕ → ℕ
 half bytes i =
     slice_index bytes i + slice_index bytes (i + 1) * 256

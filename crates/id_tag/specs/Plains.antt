@@ -16,7 +16,7 @@ use Rattle.id_tag.specs.declared.Message.{Message}
 use Rattle.id_tag.specs.declared.Payload.TheVariants.{Token}
 use Rattle.id_tag.specs.declared.Sender.TheVariants.{Element}
 
--- the element in the name of a context, or the maker in that of a structure
+-- the element and the serial number in the name of a context, and a structure's maker and serial number in its name
 abbrev pub element_of : ℕ → ℕ
 element_of n = n % 256
 
@@ -37,7 +37,7 @@ made_by m n l h = record { element = m % 128; serial = n; low = l; high = h; nes
 abbrev pub structure_of : ℕ → ℤ → ℤ → Array
 structure_of n l h = made_by (element_of n) (serial_of n) l h
 
--- the lower bound in the place of a cell, which has it as a number above its least
+-- the bounds and the index in the place of a cell, each above its least
 abbrev pub low_of : ℕ → ℤ
 low_of p = pos (p / 2 ^ 44) -ℤ pos (2 ^ 19)
 

@@ -28,8 +28,7 @@ abbrev pub IsPieceOf : List ℕ → ℕ → Type 0
 IsPieceOf text n = (0 < n) × (n ≤ length text)
 
 -- a run has a byte where its text opens with one that passes
-run_piece : (p q : ℕ → Bool) (text : List ℕ) → ((b : ℕ) → p b ≡ true → q b ≡ true) → Opens p text
-    → IsPieceOf text (prefix_len q text)
+run_piece : (p q : ℕ → Bool) (text : List ℕ) → ((b : ℕ) → p b ≡ true → q b ≡ true) → Opens p text → IsPieceOf text (prefix_len q text)
 run_piece p q [] goes_on opens = absurd opens
 run_piece p q (b ∷ rest) goes_on opens =
     let more : 0 < prefix_len q (b ∷ rest) = rw (goes_on b opens) (omega arith) in
@@ -70,30 +69,25 @@ abbrev pub IsReadTo : List ℕ → ℕ → List Token → Type 0
 IsReadTo text at ts = (us : List Token) (e : Ending) → Lexes at (drop at text) us e → Lexes 0 text (ts ++ us) e
 
 -- a gap adds no token
-pub read_gap : (text : List ℕ) (at n : ℕ) (ts : List Token) → IsReadTo text at ts → Begins (drop at text) None n
-    → IsReadTo text (at + n) ts
+pub read_gap : (text : List ℕ) (at n : ℕ) (ts : List Token) → IsReadTo text at ts → Begins (drop at text) None n → IsReadTo text (at + n) ts
 read_gap text at n ts read piece us e rest = read us e (gap n piece (rw (drop-drop n at text) rest))
 
 -- a token comes behind those before
-pub read_token : (text : List ℕ) (at n : ℕ) (ts : List Token) (k : TokenKind) → IsReadTo text at ts
-    → Begins (drop at text) (Some k) n →
+pub read_token : (text : List ℕ) (at n : ℕ) (ts : List Token) (k : TokenKind) → IsReadTo text at ts → Begins (drop at text) (Some k) n →
     IsReadTo text (at + n) (ts ++ token_of k at (at + n) ∷ [])
 read_token text at n ts k read piece us e rest =
     subst (λ vs. Lexes 0 text vs e) (sym (append_assoc ts (token_of k at (at + n) ∷ []) us))
     (read (token_of k at (at + n) ∷ us) e (token k n piece (rw (drop-drop n at text) rest)))
 
 -- a piece adds its token, if it is one
-pub read_on : (text : List ℕ) (at stop : ℕ) (before after : List Token) → IsReadTo text at before
-    → IsReadOn text at stop before after →
+pub read_on : (text : List ℕ) (at stop : ℕ) (before after : List Token) → IsReadTo text at before → IsReadOn text at stop before after →
     IsReadTo text stop after
 read_on text at stop before after read (None, n, piece, stops, adds) =
     rw (stops, adds) (read_gap text at n (before ++ []) (rw (append-nil before) read) piece)
-read_on text at stop before after read (Some k, n, piece, stops, adds) =
-    rw (adds, stops) (read_token text at n before k read piece)
+read_on text at stop before after read (Some k, n, piece, stops, adds) = rw (adds, stops) (read_token text at n before k read piece)
 
 -- at the end of the text `End` comes
-pub read_end : (text : List ℕ) (at : ℕ) (ts : List Token) → length text ≤ at → IsReadTo text at ts
-    → Lexes 0 text (ts ++ token_of End at at ∷ []) Whole
+pub read_end : (text : List ℕ) (at : ℕ) (ts : List Token) → length text ≤ at → IsReadTo text at ts → Lexes 0 text (ts ++ token_of End at at ∷ []) Whole
 read_end text at ts all read = read (token_of End at at ∷ []) Whole (rw (drop_all at text all) end)
 
 -- `End` stands before nothing that ends
@@ -105,8 +99,7 @@ cons_ends_once t (u ∷ us) other ends = (other, ends)
 pub ends_once : {at : ℕ} {text : List ℕ} {ts : List Token} {e : Ending} → Lexes at text ts e → e ≡ Whole → EndsOnce ts
 ends_once end whole = refl
 ends_once (gap n piece rest) whole = ends_once rest whole
-ends_once {at} (token {ts = us} k n piece rest) whole =
-    cons_ends_once (token_of k at (at + n)) us (piece_no_end piece) (ends_once rest whole)
+ends_once {at} (token {ts = us} k n piece rest) whole = cons_ends_once (token_of k at (at + n)) us (piece_no_end piece) (ends_once rest whole)
 ends_once (too_large large) whole = absurd cc
 ends_once (bad_byte nothing) whole = absurd cc
 
@@ -143,16 +136,13 @@ end_stays : (at n : ℕ) (text : List ℕ) → n ≤ length text → at + n + le
 end_stays at n text fits = omega (arith, length-drop n text)
 
 -- the tokens lie within the text
-within_from : {at : ℕ} {text : List ℕ} {ts : List Token} {e : Ending} → Lexes at text ts e
-    → AllByRecursion (IsWithin (at + length text)) ts
+within_from : {at : ℕ} {text : List ℕ} {ts : List Token} {e : Ending} → Lexes at text ts e → AllByRecursion (IsWithin (at + length text)) ts
 within_from {at} end = ((omega arith, omega arith), tt)
 within_from {at} {text} {ts} (gap n piece rest) =
     subst (λ i. AllByRecursion (IsWithin i) ts) (end_stays at n text (piece_within piece).1) (within_from rest)
 within_from {at} {text} (token {ts = us} k n piece rest) =
-    let fits = (piece_within piece).1 in (
-      (omega arith, omega arith),
-      subst (λ i. AllByRecursion (IsWithin i) us) (end_stays at n text fits) (within_from rest),
-    )
+    let fits = (piece_within piece).1 in
+    ((omega arith, omega arith), subst (λ i. AllByRecursion (IsWithin i) us) (end_stays at n text fits) (within_from rest))
 within_from (too_large large) = tt
 within_from (bad_byte nothing) = tt
 
@@ -165,8 +155,7 @@ abbrev EndsWithin : ℕ → Ending → Type 0
 EndsWithin n Whole = Unit {0}
 EndsWithin n (Refused x) = IsPlaceWithin n x
 
-ends_within : {at : ℕ} {text : List ℕ} {ts : List Token} {e : Ending} → Lexes at text ts e
-    → EndsWithin (at + length text) e
+ends_within : {at : ℕ} {text : List ℕ} {ts : List Token} {e : Ending} → Lexes at text ts e → EndsWithin (at + length text) e
 ends_within end = tt
 ends_within {at} {text} {ts} {e} (gap n piece rest) =
     subst (λ i. EndsWithin i e) (end_stays at n text (piece_within piece).1) (ends_within rest)
@@ -183,30 +172,21 @@ refused_within text (NumberTooLarge at) (ts, read) = subst (λ n. at ≤ n) (zer
 refused_within text Memory any = tt
 
 -- a piece that is refused is the refusal of the text
-pub refusal_at : (text : List ℕ) (at : ℕ) (ts : List Token) (x : TextError) → IsReadTo text at ts
-    → IsRefusedAt at (drop at text) x → IsRefusal text x
+pub refusal_at : (text : List ℕ) (at : ℕ) (ts : List Token) (x : TextError) → IsReadTo text at ts → IsRefusedAt at (drop at text) x → IsRefusal text x
 refusal_at text at ts TooLong read refused = absurd refused
 refusal_at text at ts (BadByte place) read refused =
-    subst (λ p. IsRefusal text (BadByte p)) (sym refused.0) (
-      ts ++ [],
-      read [] (Refused (BadByte at)) (bad_byte refused.1),
-    )
+    subst (λ p. IsRefusal text (BadByte p)) (sym refused.0) (ts ++ [], read [] (Refused (BadByte at)) (bad_byte refused.1))
 refusal_at text at ts (NumberTooLarge place) read refused =
-    subst (λ p. IsRefusal text (NumberTooLarge p)) (sym refused.0) (
-      ts ++ [],
-      read [] (Refused (NumberTooLarge at)) (too_large refused.1),
-    )
+    subst (λ p. IsRefusal text (NumberTooLarge p)) (sym refused.0) (ts ++ [], read [] (Refused (NumberTooLarge at)) (too_large refused.1))
 refusal_at text at ts Memory read refused = tt
 
 -- a piece behind a place ends within the text, and behind that place
-pub piece_fits : (text : List ℕ) (at : ℕ) (k : Option TokenKind) (n : ℕ) → at ≤ length text → Begins (drop at text) k n
-    → (0 < n) × (at + n ≤ length text)
+pub piece_fits : (text : List ℕ) (at : ℕ) (k : Option TokenKind) (n : ℕ) → at ≤ length text → Begins (drop at text) k n → (0 < n) × (at + n ≤ length text)
 piece_fits text at k n inside piece =
     let within = piece_within piece in
     (within.0, omega (arith, length-drop at text))
 
-pub read_on_fits : (text : List ℕ) (at stop : ℕ) (before after : List Token) → at ≤ length text
-    → IsReadOn text at stop before after →
+pub read_on_fits : (text : List ℕ) (at stop : ℕ) (before after : List Token) → at ≤ length text → IsReadOn text at stop before after →
     (at < stop) × (stop ≤ length text)
 read_on_fits text at stop before after inside (k, n, piece, stops, adds) =
     let fits = piece_fits text at k n inside piece in (omega (arith, fits.0, stops), omega (arith, fits.1, stops))

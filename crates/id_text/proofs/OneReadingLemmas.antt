@@ -6,10 +6,8 @@ use Rattle.std.specs.Prelude.{take_while, Result, MatchResult}
 use Rattle.std.specs.List.{prefix_len}
 use Rattle.std.specs.Char.{is_ascii_digit}
 use Rattle.std.proofs.lemmas.Bool.Decides.{nat_tests}
-use Rattle.id_text.specs.Bytes.{is_blank, is_percent, is_comment_byte, is_letter, is_name_byte, is_other, number_of}
-use Rattle.id_text.specs.Bytes.{word_of, sign_of}
-use Rattle.id_text.specs.Lexes.{Opens, HasSign, HasLongestSign, Begins, BeginsNothing, BeginsLarge, Lexes, Ending}
-use Rattle.id_text.specs.Lexes.{IsRefusal, token_of}
+use Rattle.id_text.specs.Bytes.{is_blank, is_percent, is_comment_byte, is_letter, is_name_byte, is_other, number_of, word_of, sign_of}
+use Rattle.id_text.specs.Lexes.{Opens, HasSign, HasLongestSign, Begins, BeginsNothing, BeginsLarge, Lexes, Ending, IsRefusal, token_of}
 use Rattle.id_text.specs.Lexes.Begins.{blank, comment, word, name, number, sign}
 use Rattle.id_text.specs.Lexes.Ending.{Whole, Refused}
 use Rattle.id_text.specs.Lexes.Lexes.{end, gap, token, too_large, bad_byte}
@@ -34,9 +32,7 @@ data Class : Type 0 where
   Other : Class
 
 abbrev class_of_byte : ℕ → Class
-class_of_byte b =
-    cond (is_blank b) Blank
-    (cond (is_percent b) Percent (cond (is_letter b) Letter (cond (is_ascii_digit b) Digit Other)))
+class_of_byte b = cond (is_blank b) Blank (cond (is_percent b) Percent (cond (is_letter b) Letter (cond (is_ascii_digit b) Digit Other)))
 
 abbrev class_of : List ℕ → Class
 class_of [] = Other
@@ -78,9 +74,7 @@ both_false false y h = (refl, h)
 class_other : (text : List ℕ) → Opens is_other text → class_of text ≡ Other
 class_other [] opens = absurd opens
 class_other (b ∷ rest) opens =
-    let no_piece =
-    both_false (is_blank b || is_percent b) (is_name_byte b)
-    (false_from_not ((is_blank b || is_percent b) || is_name_byte b) opens) in
+    let no_piece = both_false (is_blank b || is_percent b) (is_name_byte b) (false_from_not ((is_blank b || is_percent b) || is_name_byte b) opens) in
     let no_gap = both_false (is_blank b) (is_percent b) no_piece.0 in
     let no_name = both_false (is_letter b) (is_ascii_digit b) no_piece.1 in
     rw (no_gap.0, no_gap.1, no_name.0, no_name.1) refl
@@ -90,8 +84,7 @@ class_sign text s has = class_other text (subst (Opens is_other) (sym has.1) (is
 
 -- the kind of a word: the reserved word that is spelled so, else a name
 abbrev IsKindOfWord : List ℕ → Option TokenKind → Type 0
-IsKindOfWord w k =
-    ((r : Keyword) × (w ≡ word_of r) × (k ≡ Some (Key r))) ⊎ (((r : Keyword) → w ≢ word_of r) × (k ≡ Some (Name w)))
+IsKindOfWord w k = ((r : Keyword) × (w ≡ word_of r) × (k ≡ Some (Key r))) ⊎ (((r : Keyword) → w ≢ word_of r) × (k ≡ Some (Name w)))
 
 -- the piece that the first byte's class allows
 abbrev Allows : Class → List ℕ → Option TokenKind → ℕ → Type 0
@@ -99,8 +92,7 @@ Allows Blank text k n = (k ≡ None) × (n ≡ 1)
 Allows Percent text k n = (k ≡ None) × (n ≡ prefix_len is_comment_byte text)
 Allows Letter text k n = IsKindOfWord (take_while is_name_byte text) k × (n ≡ prefix_len is_name_byte text)
 Allows Digit text k n =
-    (number_of (take_while is_ascii_digit text) < 2 ^ 63)
-    × (k ≡ Some (Number (pos (number_of (take_while is_ascii_digit text))))) ×
+    (number_of (take_while is_ascii_digit text) < 2 ^ 63) × (k ≡ Some (Number (pos (number_of (take_while is_ascii_digit text))))) ×
     (n ≡ prefix_len is_ascii_digit text)
 Allows Other text k n = (s : Symbol) × HasLongestSign text s × (k ≡ Some (Sign s)) × (n ≡ length (sign_of s))
 
@@ -128,8 +120,7 @@ kind_of_word_one w k l (inr a) (inl b) = absurd (a.0 b.0 b.1)
 kind_of_word_one w k l (inr a) (inr b) = a.1 ∙ sym b.1
 
 -- what a class allows is one piece
-allows_one : (c : Class) (text : List ℕ) (k l : Option TokenKind) (m n : ℕ) → Allows c text k m → Allows c text l n
-    → (k ≡ l) × (m ≡ n)
+allows_one : (c : Class) (text : List ℕ) (k l : Option TokenKind) (m n : ℕ) → Allows c text k m → Allows c text l n → (k ≡ l) × (m ≡ n)
 allows_one Blank text k l m n a b = (a.0 ∙ sym b.0, a.1 ∙ sym b.1)
 allows_one Percent text k l m n a b = (a.0 ∙ sym b.0, a.1 ∙ sym b.1)
 allows_one Letter text k l m n a b = (kind_of_word_one (take_while is_name_byte text) k l a.0 b.0, a.1 ∙ sym b.1)
@@ -167,8 +158,7 @@ empty_no_piece k n piece = let within = piece_within piece in omega arith
 abbrev pub Same : List Token → Ending → List Token → Ending → Type 0
 Same ts e us f = (ts ≡ us) × (e ≡ f)
 
-pub one_reading : {at : ℕ} {text : List ℕ} {ts us : List Token} {e f : Ending} → Lexes at text ts e → Lexes at text us f
-    → Same ts e us f
+pub one_reading : {at : ℕ} {text : List ℕ} {ts us : List Token} {e f : Ending} → Lexes at text ts e → Lexes at text us f → Same ts e us f
 one_reading end end = (refl, refl)
 one_reading end (gap n p r) = absurd (empty_no_piece None n p)
 one_reading end (token k n p r) = absurd (empty_no_piece (Some k) n p)
@@ -202,8 +192,7 @@ one_reading {at} {text} (bad_byte b) (too_large l) = absurd (large_not_nothing t
 one_reading (bad_byte b) (bad_byte c) = (refl, refl)
 
 -- a text that is refused is read in no other way
-pub one_refusal : (text : List ℕ) (x : TextError) → IsRefusal text x → (ts : List Token) (e : Ending)
-    → length text ≤ MAX_BYTES → Lexes 0 text ts e →
+pub one_refusal : (text : List ℕ) (x : TextError) → IsRefusal text x → (ts : List Token) (e : Ending) → length text ≤ MAX_BYTES → Lexes 0 text ts e →
     (x ≡ Memory) ⊎ (e ≡ Refused x)
 one_refusal text TooLong refusal ts e short read = absurd (omega arith)
 one_refusal text (BadByte at) refusal ts e short read = inr (sym (one_reading refusal.1 read).1)
@@ -211,10 +200,8 @@ one_refusal text (NumberTooLarge at) refusal ts e short read = inr (sym (one_rea
 one_refusal text Memory refusal ts e short read = inl refl
 
 -- what came back is what any reading of the text has
-pub one_result : (text : List ℕ) (r : Result (Vec Token Global) TextError)
-    → MatchResult r (λ v. Lexes 0 text v.items Whole) (IsRefusal text) →
+pub one_result : (text : List ℕ) (r : Result (Vec Token Global) TextError) → MatchResult r (λ v. Lexes 0 text v.items Whole) (IsRefusal text) →
     (ts : List Token) (e : Ending) →
-    length text ≤ MAX_BYTES → Lexes 0 text ts e
-    → MatchResult r (λ v. (v.items ≡ ts) × (e ≡ Whole)) (λ x. (x ≡ Memory) ⊎ (e ≡ Refused x))
+    length text ≤ MAX_BYTES → Lexes 0 text ts e → MatchResult r (λ v. (v.items ≡ ts) × (e ≡ Whole)) (λ x. (x ≡ Memory) ⊎ (e ≡ Refused x))
 one_result text (Ok v) tokens ts e short read = let same = one_reading tokens read in (same.0, sym same.1)
 one_result text (Err x) refused ts e short read = one_refusal text x refused ts e short read

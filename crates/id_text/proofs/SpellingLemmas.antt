@@ -19,14 +19,10 @@ first_spelled spelling w [] = None
 first_spelled spelling w (k ∷ ks) = cond (bytes_eq (spelling k) w) (Some k) (first_spelled spelling w ks)
 
 abbrev all_words : List Keyword
-all_words =
-    Def ∷ If ∷ Then ∷ Else ∷ While ∷ Do ∷ Next ∷ Finally ∷ In ∷ True ∷ False ∷ Int ∷ BoolWord ∷ Array ∷ Div ∷ Rem ∷ And
-    ∷ Or ∷ Not ∷ For ∷ To ∷ []
+all_words = Def ∷ If ∷ Then ∷ Else ∷ While ∷ Do ∷ Next ∷ Finally ∷ In ∷ True ∷ False ∷ Int ∷ BoolWord ∷ Array ∷ Div ∷ Rem ∷ And ∷ Or ∷ Not ∷ For ∷ To ∷ []
 
 abbrev all_signs : List Symbol
-all_signs =
-    LeftParen ∷ RightParen ∷ LeftBrace ∷ RightBrace ∷ LeftBracket ∷ RightBracket ∷ Comma ∷ Semicolon ∷ Colon ∷ Becomes
-    ∷ Equal ∷ NotEqual ∷ Less ∷
+all_signs = LeftParen ∷ RightParen ∷ LeftBrace ∷ RightBrace ∷ LeftBracket ∷ RightBracket ∷ Comma ∷ Semicolon ∷ Colon ∷ Becomes ∷ Equal ∷ NotEqual ∷ Less ∷
     LessEqual ∷ Greater ∷ GreaterEqual ∷ Arrow ∷ Plus ∷ Minus ∷ Star ∷ []
 
 word_found : (k : Keyword) → first_spelled word_of (word_of k) all_words ≡ Some k
@@ -78,12 +74,10 @@ pub same_some : {K : Type 0} (k l : K) → Some k ≡ Some l → k ≡ l
 same_some k l e = cc
 
 pub word_of_same : (k l : Keyword) → word_of k ≡ word_of l → k ≡ l
-word_of_same k l same =
-    same_some k l (sym (word_found k) ∙ ap (λ w. first_spelled word_of w all_words) same ∙ word_found l)
+word_of_same k l same = same_some k l (sym (word_found k) ∙ ap (λ w. first_spelled word_of w all_words) same ∙ word_found l)
 
 pub sign_of_same : (s t : Symbol) → sign_of s ≡ sign_of t → s ≡ t
-sign_of_same s t same =
-    same_some s t (sym (sign_found s) ∙ ap (λ w. first_spelled sign_of w all_signs) same ∙ sign_found t)
+sign_of_same s t same = same_some s t (sym (sign_found s) ∙ ap (λ w. first_spelled sign_of w all_signs) same ∙ sign_found t)
 
 -- the first byte of a sign begins nothing else
 pub is_other_sign : (s : Symbol) (rest : List ℕ) → Opens is_other (sign_of s ++ rest)

@@ -13,20 +13,16 @@ use Rattle.id_grammar.specs.declared.tree.TreeError.{TreeError}
 use Rattle.id_grammar.specs.declared.tree.TreeError.TheVariants.{Unexpected}
 use Rattle.id_grammar.specs.Tree as tree
 use Rattle.id_grammar.specs.Tree.{Tree, tree_of, call, none, more}
-use Rattle.id_grammar.specs.Grammar.{Expression, Atom, Arguments, MoreArguments, Rest, done, part, named_of}
-use Rattle.id_grammar.specs.Grammar.{argument_of}
+use Rattle.id_grammar.specs.Grammar.{Expression, Atom, Arguments, MoreArguments, Rest, done, part, named_of, argument_of}
 use Rattle.id_grammar.specs.Grammar.{arguments_of, Opens, no_arguments, last_argument, next_argument}
-use Rattle.id_grammar.specs.Machine.{opening, Frame, Inside, State, Move, Want, Have, Next, expresses, takes, Refused}
-use Rattle.id_grammar.specs.Machine.{run}
+use Rattle.id_grammar.specs.Machine.{opening, Frame, Inside, State, Move, Want, Have, Next, expresses, takes, Refused, run}
 use Rattle.id_grammar.specs.Readers.{first_kind, first_start, IsRead, IsGathered, EndsBy, Leads, Fails}
 use Rattle.id_grammar.specs.Readers.{begins_expression, no_room_at, Applies, Misapplies, passed, Hands}
-use Rattle.id_grammar.proofs.RunLemmas.{Unopened, run-deep, run-none, run-done, run-part, run-inside, run-chosen}
-use Rattle.id_grammar.proofs.RunLemmas.{run-left_out, run-arguments}
+use Rattle.id_grammar.proofs.RunLemmas.{Unopened, run-deep, run-none, run-done, run-part, run-inside, run-chosen, run-left_out, run-arguments}
 use Rattle.id_grammar.proofs.ReaderLemmas.{EndsBy-at, At, At-opens, Leads-done, first_of, no_word, opens_name}
 
 -- A name, and what stands behind it.
-module _ {ts us : List Token} {t : Token} (e : ts ≡ t ∷ us) (d : ℕ) (w : d + 1 ≤ 200) (x : List ℕ)
-    (q : first_kind ts ≡ Name x) where
+module _ {ts us : List Token} {t : Token} (e : ts ≡ t ∷ us) (d : ℕ) (w : d + 1 ≤ 200) (x : List ℕ) (q : first_kind ts ≡ Name x) where
   At-named : At ts Atom d us (named_of x t.start) 0
   At-named = At-opens e (opens_name x q) d (omega arith)
 
@@ -37,8 +33,7 @@ module _ {ts us : List Token} {t : Token} (e : ts ≡ t ∷ us) (d : ℕ) (w : d
   Fails-named {y = y} p = record { fails = λ K. EndsBy-at y (At-named.comes K) (p.fails K) }
 
 -- what was read behind the name was read from it on
-pub IsRead-named : {ts us vs : List Token} {t : Token} {d h : ℕ} → ts ≡ t ∷ us → (0 < h) × IsGathered us vs d h
-    → IsRead ts vs d h
+pub IsRead-named : {ts us vs : List Token} {t : Token} {d h : ℕ} → ts ≡ t ∷ us → (0 < h) × IsGathered us vs d h → IsRead ts vs d h
 IsRead-named e q = let l = ap length e in record {
   behind = record { shorter = omega (arith, q.1.shorter, l) };
   some = q.0;
@@ -46,41 +41,34 @@ IsRead-named e q = let l = ap length e in record {
 }
 
 -- no bracket comes behind the name
-pub Applies-name : {ts : List Token} {x : List ℕ} {p : ℕ} (d : ℕ) {a : Tree} {h : ℕ}
-    → (first_kind ts ≡ Sign LeftParen → ⊥) → a ≡ tree.name x p → h ≡ 1 →
+pub Applies-name : {ts : List Token} {x : List ℕ} {p : ℕ} (d : ℕ) {a : Tree} {h : ℕ} → (first_kind ts ≡ Sign LeftParen → ⊥) → a ≡ tree.name x p → h ≡ 1 →
     Applies ts d x p ts a h
 Applies-name {ts = ts} {x = x} {p = p} d f i j = rw (i, j) (record {
   comes = λ K.
       let n = tree.name x p in
-      run-left_out 200 ts (the.Sign LeftParen) (λ _. part Arguments (λ a. done (call x a p))) (done n) 0 (d + 1) 1 K
-      (no_word (the.Sign LeftParen) ts f)
+      run-left_out 200 ts (the.Sign LeftParen) (λ _. part Arguments (λ a. done (call x a p))) (done n) 0 (d + 1) 1 K (no_word (the.Sign LeftParen) ts f)
       ∙ run-done 200 ts n 0 (d + 1) 1 K;
 })
 
 -- a bracket comes, and arguments
-module _ {ts us : List Token} {t : Token} (e : ts ≡ t ∷ us) (q : first_kind ts ≡ Sign LeftParen) (d : ℕ) (x : List ℕ)
-    (p : ℕ) where
+module _ {ts us : List Token} {t : Token} (e : ts ≡ t ∷ us) (q : first_kind ts ≡ Sign LeftParen) (d : ℕ) (x : List ℕ) (p : ℕ) where
   bracket_comes : (K : List Frame) → run 200 ts (Next (named_of x p) 0 (d + 1) 1 K) ≡
       run 200 us (Want Arguments (d + 1) (Inside (λ a. done (call x a p)) 0 (d + 1) 1 ∷ K))
   bracket_comes K =
       let f : Tree → Rest = λ a. done (call x a p) in
-      rw e (run-chosen 200 t us (the.Sign LeftParen) (λ _. part Arguments f) (done (tree.name x p)) 0 (d + 1) 1 K
-      (first_of e q)
+      rw e (run-chosen 200 t us (the.Sign LeftParen) (λ _. part Arguments f) (done (tree.name x p)) 0 (d + 1) 1 K (first_of e q)
       ∙ run-part 200 us Arguments f 0 (d + 1) 1 K)
 
-  pub Applies-call : {vs : List Token} {a b : Tree} {m h : ℕ} → Leads us Arguments (d + 1) vs a m → b ≡ call x a p
-      → h ≡ m + 1 → Applies ts d x p vs b h
+  pub Applies-call : {vs : List Token} {a b : Tree} {m h : ℕ} → Leads us Arguments (d + 1) vs a m → b ≡ call x a p → h ≡ m + 1 → Applies ts d x p vs b h
   Applies-call {vs = vs} {a = a} {m = m} r i j = rw (i, j) (record {
     comes = λ K.
         let f : Tree → Rest = λ a. done (call x a p) in
-        bracket_comes K ∙ r.comes (Inside f 0 (d + 1) 1 ∷ K) ∙ run-inside 200 vs a m f 0 (d + 1) 1 K
-        ∙ run-done 200 vs (call x a p) (max 0 m) (d + 1) 1 K
+        bracket_comes K ∙ r.comes (Inside f 0 (d + 1) 1 ∷ K) ∙ run-inside 200 vs a m f 0 (d + 1) 1 K ∙ run-done 200 vs (call x a p) (max 0 m) (d + 1) 1 K
         ∙ ap (λ n. run 200 vs (Have (call x a p) n K)) (omega arith);
   })
 
   pub Misapplies-call : {y : TreeError} → Fails us Arguments (d + 1) y → Misapplies ts d x p y
-  Misapplies-call {y = y} r =
-      record { fails = λ K. EndsBy-at y (bracket_comes K) (r.fails (Inside (λ a. done (call x a p)) 0 (d + 1) 1 ∷ K)) }
+  Misapplies-call {y = y} r = record { fails = λ K. EndsBy-at y (bracket_comes K) (r.fails (Inside (λ a. done (call x a p)) 0 (d + 1) 1 ∷ K)) }
 
 -- Arguments.
 opens_none : {k : TokenKind} {p : ℕ} → k ≡ Sign RightParen → Opens Arguments k p (done none)
@@ -93,18 +81,16 @@ opens_next : {k : TokenKind} {p : ℕ} → k ≡ Sign Comma → Opens MoreArgume
 opens_next q = rw q next_argument
 
 -- no argument comes
-pub Leads-unpassed : {ts us : List Token} {t : Token} (d : ℕ) → d ≤ 200 → ts ≡ t ∷ us → t.kind ≡ Sign RightParen
-    → Leads ts Arguments d us none 0
+pub Leads-unpassed : {ts us : List Token} {t : Token} (d : ℕ) → d ≤ 200 → ts ≡ t ∷ us → t.kind ≡ Sign RightParen → Leads ts Arguments d us none 0
 Leads-unpassed d w e q = Leads-done (At-opens e (opens_none (ap first_kind e ∙ q)) d (omega arith))
 
 -- where an argument is wanted, one comes, and those behind it may
 run-argument : {ts us : List Token} {d h : ℕ} {e : Tree} → Leads ts Expression d us e h → (K : List Frame) →
-    run 200 ts (Next arguments_of 0 (d + 0) 0 K)
-    ≡ run 200 us (Want MoreArguments d (Inside (λ a. done (more e a)) h d 0 ∷ K))
+    run 200 ts (Next arguments_of 0 (d + 0) 0 K) ≡ run 200 us (Want MoreArguments d (Inside (λ a. done (more e a)) h d 0 ∷ K))
 run-argument {ts = ts} {us = us} {d = d} {h = h} {e = e} q K =
     ap (λ n. run 200 ts (Next arguments_of 0 n 0 K)) (add-zero d)
-    ∙ run-part 200 ts Expression argument_of 0 d 0 K ∙ q.comes (Inside argument_of 0 d 0 ∷ K)
-    ∙ run-inside 200 us e h argument_of 0 d 0 K ∙ run-part 200 us MoreArguments (λ a. done (more e a)) (max 0 h) d 0 K
+    ∙ run-part 200 ts Expression argument_of 0 d 0 K ∙ q.comes (Inside argument_of 0 d 0 ∷ K) ∙ run-inside 200 us e h argument_of 0 d 0 K
+    ∙ run-part 200 us MoreArguments (λ a. done (more e a)) (max 0 h) d 0 K
     ∙ ap (λ n. run 200 us (Want MoreArguments d (Inside (λ a. done (more e a)) n d 0 ∷ K))) (omega arith)
 
 -- an argument is put before those behind it
@@ -124,8 +110,7 @@ not_closed (t ∷ ts) f = unopened t.kind t.start f
 
 -- the first argument
 module _ {ts : List Token} (d : ℕ) (f : first_kind ts ≡ Sign RightParen → ⊥) where
-  pub Hands-first : {us : List Token} {h : ℕ} (e a : Expr) → a ≡ e → Leads ts Expression d us (tree_of e) h
-      → Hands ts d us (a ∷ []) h
+  pub Hands-first : {us : List Token} {h : ℕ} (e a : Expr) → a ≡ e → Leads ts Expression d us (tree_of e) h → Hands ts d us (a ∷ []) h
   Hands-first {h = h} e a i q = rw i (record {
     passes = λ K. record {
       stack = Inside (λ a. done (more (tree_of e) a)) h d 0 ∷ K;
@@ -148,14 +133,12 @@ passed-append [] e a = refl
 passed-append (b ∷ es) e a = ap (λ c. more (tree_of b) c) (passed-append es e a)
 
 -- behind arguments
-module _ {ts us : List Token} {d h : ℕ} {es : List Expr} (g : Hands ts d us es h) {ws : List Token} {t : Token}
-    (whole : us ≡ t ∷ ws) where
+module _ {ts us : List Token} {d h : ℕ} {es : List Expr} (g : Hands ts d us es h) {ws : List Token} {t : Token} (whole : us ≡ t ∷ ws) where
   comma_comes : first_kind us ≡ Sign Comma → d + 1 ≤ 200 → At us MoreArguments d ws arguments_of 0
   comma_comes q w = At-opens whole (opens_next q) d (omega arith)
 
   -- one more
-  pub Hands-add : {vs : List Token} {k : ℕ} (e a : Expr) → a ≡ e → first_kind us ≡ Sign Comma → d + 1 ≤ 200
-      → Leads ws Expression d vs (tree_of e) k →
+  pub Hands-add : {vs : List Token} {k : ℕ} (e a : Expr) → a ≡ e → first_kind us ≡ Sign Comma → d + 1 ≤ 200 → Leads ws Expression d vs (tree_of e) k →
       Hands ts d vs (es ++ a ∷ []) (max h k)
   Hands-add {k = k} e b j i w q = rw j (record {
     passes = λ K.
@@ -170,8 +153,7 @@ module _ {ts us : List Token} {d h : ℕ} {es : List Expr} (g : Hands ts d us es
         };
   })
 
-  pub Fails-added : {x : TreeError} → first_kind us ≡ Sign Comma → d + 1 ≤ 200 → Fails ws Expression d x
-      → Fails ts Arguments d x
+  pub Fails-added : {x : TreeError} → first_kind us ≡ Sign Comma → d + 1 ≤ 200 → Fails ws Expression d x → Fails ts Arguments d x
   Fails-added {x = x} i w q = record {
     fails = λ K.
         let l = g.passes K in
@@ -190,14 +172,12 @@ module _ {ts us : List Token} {d h : ℕ} {es : List Expr} (g : Hands ts d us es
         ∙ l.folds ws none (0 + 0) ∙ ap (λ n. run 200 ws (Have (passed es none) n K)) (omega arith);
   }
 
-  not_more : (k : TokenKind) (p : ℕ) → (k ≡ Sign Comma → ⊥) → (k ≡ Sign RightParen → ⊥)
-      → opening MoreArguments k p ≡ None
+  not_more : (k : TokenKind) (p : ℕ) → (k ≡ Sign Comma → ⊥) → (k ≡ Sign RightParen → ⊥) → opening MoreArguments k p ≡ None
   not_more (Sign Comma) p f h = absurd (f refl)
   not_more (Sign RightParen) p f h = absurd (h refl)
   not_more _ p f h = refl
 
-  pub Fails-passed : (x : TreeError) → x ≡ Unexpected (first_start us) → (first_kind us ≡ Sign Comma → ⊥)
-      → (t.kind ≡ Sign RightParen → ⊥) →
+  pub Fails-passed : (x : TreeError) → x ≡ Unexpected (first_start us) → (first_kind us ≡ Sign Comma → ⊥) → (t.kind ≡ Sign RightParen → ⊥) →
       Fails ts Arguments d x
   Fails-passed x j f n = record {
     fails = λ K.
@@ -207,16 +187,14 @@ module _ {ts us : List Token} {d h : ℕ} {es : List Expr} (g : Hands ts d us es
   }
 
 -- what was read in front of the closing bracket
-pub IsGathered-passed : {ts us ws : List Token} {t : Token} {d h : ℕ} → IsRead ts us d h → us ≡ t ∷ ws
-    → IsGathered ts ws d h
+pub IsGathered-passed : {ts us ws : List Token} {t : Token} {d h : ℕ} → IsRead ts us d h → us ≡ t ∷ ws → IsGathered ts ws d h
 IsGathered-passed p e = let l = ap length e in record { shorter = omega (arith, p.behind.shorter, l); fits = p.fits }
 
 pub IsGathered-unpassed : {ts us : List Token} {t : Token} (d : ℕ) → d ≤ 200 → ts ≡ t ∷ us → IsGathered ts us d 0
 IsGathered-unpassed d w e = let l = ap length e in record { shorter = omega (arith, l); fits = omega arith }
 
 -- one argument more was read
-pub IsRead-add : {ts us ws vs : List Token} {t : Token} {d h k : ℕ} → IsRead ts us d h → us ≡ t ∷ ws → IsRead ws vs d k
-    → IsRead ts vs d (max h k)
+pub IsRead-add : {ts us ws vs : List Token} {t : Token} {d h k : ℕ} → IsRead ts us d h → us ≡ t ∷ ws → IsRead ws vs d k → IsRead ts vs d (max h k)
 IsRead-add p e q = let l = ap length e in record {
   behind = record { shorter = omega (arith, p.behind.shorter, q.behind.shorter, l) };
   some = omega (arith, p.some);
@@ -228,8 +206,7 @@ abbrev TakesTooMuch : Option Move → Type 0
 TakesTooMuch None = ⊥
 TakesTooMuch (Some m) = 200 < m.need
 
-run-too_much : (t : Token) (ts : List Token) (S : State) → TakesTooMuch (takes t S)
-    → run 200 (t ∷ ts) S ≡ Refused true t.start
+run-too_much : (t : Token) (ts : List Token) (S : State) → TakesTooMuch (takes t S) → run 200 (t ∷ ts) S ≡ Refused true t.start
 run-too_much t ts S q = by_move (takes t S) refl q
   where
     by_move : (o : Option Move) → takes t S ≡ o → TakesTooMuch o → run 200 (t ∷ ts) S ≡ Refused true t.start
@@ -237,8 +214,7 @@ run-too_much t ts S q = by_move (takes t S) refl q
     by_move (Some m) e q = run-deep 200 t ts S m e q
 
 -- Without room each token with which an expression begins takes too much nesting.
-wants_room : (t : Token) (d : ℕ) (K : List Frame) → begins_expression t.kind ≡ true → 200 ≤ d
-    → TakesTooMuch (expresses t d K)
+wants_room : (t : Token) (d : ℕ) (K : List Frame) → begins_expression t.kind ≡ true → 200 ≤ d → TakesTooMuch (expresses t d K)
 wants_room t d K b w = by_kind t.kind refl b
   where
     more : (x : ℕ) → 200 < d + 1 + x
@@ -273,14 +249,11 @@ wants_none t d K b = by_kind t.kind refl b
     by_kind (Sign LeftBrace) e b = cc
     by_kind _ e b = rw e refl
 
-pub Fails-full : {ts : List Token} (d : ℕ) (x : TreeError) → EndsOnce ts → 200 ≤ d
-    → (first_kind ts ≡ Sign RightParen → ⊥) →
+pub Fails-full : {ts : List Token} (d : ℕ) (x : TreeError) → EndsOnce ts → 200 ≤ d → (first_kind ts ≡ Sign RightParen → ⊥) →
     x ≡ no_room_at (begins_expression (first_kind ts)) (first_start ts) → Fails ts Arguments d x
 Fails-full {ts = []} d x w h f j = absurd w
-Fails-full {ts = t ∷ ts} d x w h f j =
-    Fails-argument d f (record { fails = λ K. by_test (begins_expression t.kind) refl K })
+Fails-full {ts = t ∷ ts} d x w h f j = Fails-argument d f (record { fails = λ K. by_test (begins_expression t.kind) refl K })
   where
-    by_test : (b : Bool) → begins_expression t.kind ≡ b → (K : List Frame)
-        → EndsBy (run 200 (t ∷ ts) (Want Expression d K)) x
+    by_test : (b : Bool) → begins_expression t.kind ≡ b → (K : List Frame) → EndsBy (run 200 (t ∷ ts) (Want Expression d K)) x
     by_test true b K = rw (j, b) (run-too_much t ts (Want Expression d K) (wants_room t d K b h))
     by_test false b K = rw (j, b) (run-none 200 t ts (Want Expression d K) (wants_none t d K b))

@@ -1,6 +1,5 @@
 -- The machine takes whatever the grammar derives, and makes the same tree of it: so tokens have one tree.
-use Rattle.std.proofs.Common.{◌≡◌, ℕ, ◌+◌, ◌≤◌, max, true, false, cond, leb, Option, Some, None, List, [], ◌∷◌, ◌++◌}
-use Rattle.std.proofs.Common.{refl, sym, ap, ◌∙◌, append_assoc, arith}
+use Rattle.std.proofs.Common.{◌≡◌, ℕ, ◌+◌, ◌≤◌, max, true, false, cond, leb, Option, Some, None, List, [], ◌∷◌, ◌++◌, refl, sym, ap, ◌∙◌, append_assoc, arith}
 use Rattle.std.proofs.Math.Dec.{leb-zero}
 use Rattle.id_text.specs.declared.token.Token.{Token}
 use Rattle.id_text.specs.declared.token.TokenKind.{TokenKind}
@@ -22,17 +21,13 @@ use Rattle.id_grammar.specs.Grammar.{operator_of, own_height, Derives, opened, u
 use Rattle.id_grammar.specs.Grammar.{bare, atomic, fetched, some_arguments, Follows, ended, taken, chosen, left_out}
 use Rattle.id_grammar.specs.Grammar.{named, kinded, given, Program, empty, defined}
 use Rattle.id_grammar.specs.Machine.{opening, is_word, room, Move, pick, ahead, ends, wants, Frame, Left, Right, Target}
-use Rattle.id_grammar.specs.Machine.{Inside, Sizing, Outer, again, State, Begin, Want, Have, Next, Accepted, Refused}
-use Rattle.id_grammar.specs.Machine.{run}
+use Rattle.id_grammar.specs.Machine.{Inside, Sizing, Outer, again, State, Begin, Want, Have, Next, Accepted, Refused, run}
 use Rattle.id_tree.specs.Accepted.{Accepts as AcceptsTree}
-use Rattle.id_grammar.proofs.RowLemmas.{Quiet, Ends, Bars, Parts, valid, not_fetch, Quiet-atom, Quiet-fetch}
-use Rattle.id_grammar.proofs.RowLemmas.{Quiet-operator, Follows-height, arguments_parts}
+use Rattle.id_grammar.proofs.RowLemmas.{Quiet, Ends, Bars, Parts, valid, not_fetch, Quiet-atom, Quiet-fetch, Quiet-operator, Follows-height, arguments_parts}
 use Rattle.id_grammar.proofs.RunLemmas.{run-sized, run-sizing, run-lifted, run-unlifted}
-use Rattle.id_grammar.proofs.RunLemmas.{First, Unopened, run-done, run-part, run-inside, run-outer, run-right}
-use Rattle.id_grammar.proofs.RunLemmas.{run-level}
+use Rattle.id_grammar.proofs.RunLemmas.{First, Unopened, run-done, run-part, run-inside, run-outer, run-right, run-level}
 use Rattle.id_grammar.proofs.RunLemmas.{run-left, run-unconditional, run-plain, run-bare, run-postfix, run-target}
-use Rattle.id_grammar.proofs.RunLemmas.{run-fetch, run-word, run-chosen, run-left_out, run-arguments, run-name}
-use Rattle.id_grammar.proofs.RunLemmas.{run-kind}
+use Rattle.id_grammar.proofs.RunLemmas.{run-fetch, run-word, run-chosen, run-left_out, run-arguments, run-name, run-kind}
 use Rattle.id_grammar.proofs.RunLemmas.{run-opens, run-operator}
 
 -- no operator of a level within the phrase begins the tokens
@@ -126,8 +121,7 @@ First-weaker P Q f [] q = tt
 First-weaker P Q f (t ∷ ts) q = f t.kind q
 
 -- where nothing goes on a phrase, its level ends
-run-after : (n : ℕ) (us : List Token) (s : Phrase) (e : Tree) (h d : ℕ) (K : List Frame) → Stops s us
-    → run n us (After s e h d K) ≡ run n us (Have e h K)
+run-after : (n : ℕ) (us : List Token) (s : Phrase) (e : Tree) (h d : ℕ) (K : List Frame) → Stops s us → run n us (After s e h d K) ≡ run n us (Have e h K)
 run-after n us (Grouped level.Or) e h d K q = run-left n us level.Or e h d K (Stops-own level.Or us q)
 run-after n us (Grouped level.And) e h d K q = run-left n us level.And e h d K (Stops-own level.And us q)
 run-after n us (Grouped level.Comparison) e h d K q = refl
@@ -139,35 +133,29 @@ run-after n us MoreParameters e h d K q = refl
 run-after n us Expression e h d K q = refl
 run-after n us Negation e h d K q = refl
 run-after n us Unary e h d K q = refl
-run-after n us Postfix e h d K q =
-    run-target n us e h d K
-    (First-weaker (Quiet Postfix) (λ k. is_word (the.Sign LeftBracket) k ≡ false) not_fetch us q)
+run-after n us Postfix e h d K q = run-target n us e h d K (First-weaker (Quiet Postfix) (λ k. is_word (the.Sign LeftBracket) k ≡ false) not_fetch us q)
 run-after n us Atom e h d K q = refl
 run-after n us Arguments e h d K q = refl
 run-after n us MoreArguments e h d K q = refl
 run-after n us (Tail o) e h d K q = refl
 
 -- more arguments begin with a comma or the closing bracket
-Opens-more : {k : TokenKind} {p : ℕ} {r : Rest} → Opens MoreArguments k p r → (P : TokenKind → Type 0)
-    → P (Sign RightParen) → P (Sign Comma) → P k
+Opens-more : {k : TokenKind} {p : ℕ} {r : Rest} → Opens MoreArguments k p r → (P : TokenKind → Type 0) → P (Sign RightParen) → P (Sign Comma) → P k
 Opens-more last_argument P f g = f
 Opens-more next_argument P f g = g
 
-Derives-more : {ts : List Token} {e : Tree} {h : ℕ} → Derives MoreArguments ts e h → (P : TokenKind → Type 0)
-    → P (Sign RightParen) → P (Sign Comma) →
+Derives-more : {ts : List Token} {e : Tree} {h : ℕ} → Derives MoreArguments ts e h → (P : TokenKind → Type 0) → P (Sign RightParen) → P (Sign Comma) →
     (us : List Token) → First P (ts ++ us)
 Derives-more (opened o f) P g h us = Opens-more o P g h
 
 -- a part that follows another ends it
-Part-stops : (i : Phrase) (f : Tree → Rest) {ts : List Token} {e : Tree} {h : ℕ} → Derives i ts e h
-    → (s0 s : Phrase) (us : List Token) →
+Part-stops : (i : Phrase) (f : Tree → Rest) {ts : List Token} {e : Tree} {h : ℕ} → Derives i ts e h → (s0 s : Phrase) (us : List Token) →
     Ends s0 s (part i f) → Stops s (ts ++ us)
 Part-stops MoreArguments f x s0 s us b = Derives-more x (Quiet s) b.0 b.1 us
 Part-stops _ f x s0 s us b = absurd b
 
 -- what is left of a production ends its last part
-Follows-stops : {r : Rest} {ts : List Token} {e : Tree} {h : ℕ} → Follows r ts e h → (s0 s : Phrase) (us : List Token)
-    → Ends s0 s r → Stops s0 us →
+Follows-stops : {r : Rest} {ts : List Token} {e : Tree} {h : ℕ} → Follows r ts e h → (s0 s : Phrase) (us : List Token) → Ends s0 s r → Stops s0 us →
     Stops s (ts ++ us)
 Follows-stops ended s0 s us b q = First-weaker (Quiet s0) (Quiet s) b us q
 Follows-stops (taken {w = w} q f) s0 s us b p = rw q b
@@ -178,28 +166,24 @@ Follows-stops (left_out f) s0 s us b p = absurd b
 Follows-stops (measured x f) s0 s us b p = absurd b
 Follows-stops (lifted q f) s0 s us b p = absurd b
 Follows-stops (unlifted f) s0 s us b p = absurd b
-Follows-stops (given {s = i} {f = g} {us = xs} {ts = ts} x f) s0 s us b p =
-    rw (append_assoc xs ts us) (Part-stops i g x s0 s (ts ++ us) b)
+Follows-stops (given {s = i} {f = g} {us = xs} {ts = ts} x f) s0 s us b p = rw (append_assoc xs ts us) (Part-stops i g x s0 s (ts ++ us) b)
 
 -- a tail begins with the first token of one of its productions
 Derives-tail : {o : Scope} {ts : List Token} {e : Tree} {h : ℕ} → Derives (Tail o) ts e h → (P : TokenKind → Type 0) →
     ((k : TokenKind) (p : ℕ) (r : Rest) → Opens (Tail o) k p r → P k) → (us : List Token) → First P (ts ++ us)
 Derives-tail (opened {t = t} {r = r} o f) P g us = g t.kind t.start r o
 
-Part-bars : (i : Phrase) (f : Tree → Rest) {ts : List Token} {e : Tree} {h : ℕ} → Derives i ts e h
-    → (s0 : Phrase) (w : Word) (us : List Token) →
+Part-bars : (i : Phrase) (f : Tree → Rest) {ts : List Token} {e : Tree} {h : ℕ} → Derives i ts e h → (s0 : Phrase) (w : Word) (us : List Token) →
     Bars s0 w (part i f) → First (λ k. is_word w k ≡ false) (ts ++ us)
 Part-bars (Tail o) f x s0 w us b = Derives-tail x (λ k. is_word w k ≡ false) b us
 Part-bars MoreParameters f (opened {t = t} {r = r} o g) s0 w us b = b t.kind t.start r o
 Part-bars _ f x s0 w us b = absurd b
 
 -- where a word is barred, it is not there
-Follows-bars : {r : Rest} {ts : List Token} {e : Tree} {h : ℕ} → Follows r ts e h
-    → (s0 : Phrase) (w : Word) (us : List Token) →
+Follows-bars : {r : Rest} {ts : List Token} {e : Tree} {h : ℕ} → Follows r ts e h → (s0 : Phrase) (w : Word) (us : List Token) →
     Bars s0 w r → Stops s0 us → First (λ k. is_word w k ≡ false) (ts ++ us)
 Follows-bars ended s0 w us b q = First-weaker (Quiet s0) (λ k. is_word w k ≡ false) b us q
-Follows-bars (given {s = i} {f = g} {us = xs} {ts = ts} x f) s0 w us b q =
-    rw (append_assoc xs ts us) (Part-bars i g x s0 w (ts ++ us) b)
+Follows-bars (given {s = i} {f = g} {us = xs} {ts = ts} x f) s0 w us b q = rw (append_assoc xs ts us) (Part-bars i g x s0 w (ts ++ us) b)
 Follows-bars (taken i f) s0 w us b q = rw i b
 Follows-bars (named i f) s0 w us b q = absurd b
 Follows-bars (kinded i f) s0 w us b q = absurd b
@@ -210,8 +194,7 @@ Follows-bars (lifted i f) s0 w us b q = absurd b
 Follows-bars (unlifted f) s0 w us b q = absurd b
 
 -- what a production begins has no level
-Stops-opens : (s : Phrase) {k : TokenKind} {p : ℕ} {r : Rest} → Opens s k p r → (us : List Token) → StopsInside s us
-    → Stops s us
+Stops-opens : (s : Phrase) {k : TokenKind} {p : ℕ} {r : Rest} → Opens s k p r → (us : List Token) → StopsInside s us → Stops s us
 Stops-opens (Grouped l) o us q = elim o [ ]
 Stops-opens Expression o us q = q
 Stops-opens Negation o us q = q
@@ -227,8 +210,7 @@ Stops-opens MoreArguments o (t ∷ us) q = tt
 Stops-opens (Tail j) o (t ∷ us) q = tt
 
 -- nothing of a production is still open behind it
-After-opens : (s : Phrase) {k : TokenKind} {p : ℕ} {r : Rest} → Opens s k p r → (e : Tree) (h d : ℕ) (K : List Frame)
-    → After s e h d K ≡ Have e h K
+After-opens : (s : Phrase) {k : TokenKind} {p : ℕ} {r : Rest} → Opens s k p r → (e : Tree) (h d : ℕ) (K : List Frame) → After s e h d K ≡ Have e h K
 After-opens Definition o e h d K = refl
 After-opens Parameters o e h d K = refl
 After-opens MoreParameters o e h d K = refl
@@ -316,8 +298,7 @@ IsFirst-atomic Arguments q = tt
 IsFirst-atomic _ q = absurd q
 
 -- its productions begin with no token with which one of the other's begins
-Unopened-opens : {s : Phrase} {k : TokenKind} {p : ℕ} {r : Rest} → Opens s k p r → (s0 : Phrase) → IsFirst s0 s
-    → opening s0 k p ≡ None
+Unopened-opens : {s : Phrase} {k : TokenKind} {p : ℕ} {r : Rest} → Opens s k p r → (s0 : Phrase) → IsFirst s0 s → opening s0 k p ≡ None
 Unopened-opens denied Expression q = refl
 Unopened-opens negated Expression q = refl
 Unopened-opens negated Negation q = refl
@@ -371,8 +352,7 @@ Unopened-derives (grouped {l = l} {us = xs} {vs = ys} x t p y) s0 q us =
 Unopened-derives (plain x) s0 q us = Unopened-derives x s0 (IsFirst-comparison s0 q) us
 Unopened-derives (bare x) s0 q us = Unopened-derives x s0 (IsFirst-bare s0 q) us
 Unopened-derives (atomic x) s0 q us = Unopened-derives x s0 (IsFirst-atomic s0 q) us
-Unopened-derives (fetched {us = xs} {vs = ys} x t p f) s0 q us =
-    rw (append_assoc xs (t ∷ ys) us) (Unopened-derives x s0 q (t ∷ (ys ++ us)))
+Unopened-derives (fetched {us = xs} {vs = ys} x t p f) s0 q us = rw (append_assoc xs (t ∷ ys) us) (Unopened-derives x s0 q (t ∷ (ys ++ us)))
 Unopened-derives (some_arguments f) s0 q us = absurd (no_arguments s0 q)
   where
     no_arguments : (s0 : Phrase) → IsFirst s0 Arguments → ⊥
@@ -382,10 +362,8 @@ Unopened-derives (some_arguments f) s0 q us = absurd (no_arguments s0 q)
     no_arguments _ q = q
 
 -- nor does an argument begin with the closing bracket
-Unopened-arguments : {ts : List Token} {e : Tree} {h : ℕ} → Follows arguments_of ts e h → (us : List Token)
-    → Unopened Arguments (ts ++ us)
-Unopened-arguments (given {us = xs} {ts = ts} x f) us =
-    rw (append_assoc xs ts us) (Unopened-derives x Arguments tt (ts ++ us))
+Unopened-arguments : {ts : List Token} {e : Tree} {h : ℕ} → Follows arguments_of ts e h → (us : List Token) → Unopened Arguments (ts ++ us)
+Unopened-arguments (given {us = xs} {ts = ts} x f) us = rw (append_assoc xs ts us) (Unopened-derives x Arguments tt (ts ++ us))
 
 max-assoc : (a b c d : ℕ) → max (max a b) c + d ≡ max a (max b c) + d
 max-assoc a b c d = omega arith
@@ -400,8 +378,7 @@ run-single n us level.Sum e h d K q = refl
 run-single n us level.Product e h d K q = refl
 
 -- what stands before an operator of a level is taken as the level's, where the run of what it is takes it so
-run-first : (n : ℕ) (xs : List Token) (t : Token) (us : List Token) (l : Level) (o : BinaryOp) (a : Tree) (m d : ℕ)
-    (K : List Frame) →
+run-first : (n : ℕ) (xs : List Token) (t : Token) (us : List Token) (l : Level) (o : BinaryOp) (a : Tree) (m d : ℕ) (K : List Frame) →
     operator_of l t.kind ≡ Some o →
     ((K : List Frame) (vs : List Token) → StopsInside (left_operand l) vs →
     run n (xs ++ vs) (Want (left_operand l) d K) ≡ run n vs (After (left_operand l) a m d K)) →
@@ -417,8 +394,7 @@ run-first n xs t us level.Sum o a m d K p f = f K (t ∷ us) (Quiet-operator lev
 run-first n xs t us level.Product o a m d K p f = f K (t ∷ us) (Quiet-operator level.Product t.kind o p)
 
 mutual
-  pub run-derives : {s : Phrase} {ts : List Token} {e : Tree} {h : ℕ} → Derives s ts e h
-      → (n d : ℕ) (K : List Frame) (us : List Token) → d + h ≤ n →
+  pub run-derives : {s : Phrase} {ts : List Token} {e : Tree} {h : ℕ} → Derives s ts e h → (n d : ℕ) (K : List Frame) (us : List Token) → d + h ≤ n →
       StopsInside s us → run n (ts ++ us) (Want s d K) ≡ run n us (After s e h d K)
   run-derives (opened {s = s} {t = t} {r = r} {ts = ts} {e = e} {h = h} o f) n d K us b q =
       run-opens n t (ts ++ us) s r d K o (omega (arith, Follows-height f (room r) (valid o).needs))
@@ -443,8 +419,7 @@ mutual
       ∙ run-derives y n (d + 1) (Right l o a m t.start d ∷ K) us (omega arith) (Stops-inside (operand l) us stops)
       ∙ run-after n us (operand l) b k (d + 1) (Right l o a m t.start d ∷ K) stops
       ∙ run-right n us b k l o a m t.start d K)
-  run-derives (plain {ts = ts} x) n d K us b q =
-      run-plain n (ts ++ us) d K (Unopened-derives x Negation tt us) ∙ run-derives x n d K us b q
+  run-derives (plain {ts = ts} x) n d K us b q = run-plain n (ts ++ us) d K (Unopened-derives x Negation tt us) ∙ run-derives x n d K us b q
   run-derives (bare {ts = ts} {e = e} {h = h} x) n d K us b q =
       run-bare n (ts ++ us) d K (Unopened-derives x Unary tt us)
       ∙ run-derives x n d K us b (Stops-inside Postfix us q)
@@ -454,18 +429,15 @@ mutual
       rw (append_assoc xs (t ∷ ys) us)
       (run-derives x n d K (t ∷ (ys ++ us)) (omega arith) (Quiet-fetch p)
       ∙ run-fetch n t (ys ++ us) a m d K p (omega arith)
-      ∙ run-follows f n m (d + 1) 1 (Target d ∷ K) us Arguments (omega arith)
-      (λ i. ((refl, (refl, (refl, (refl, (refl, refl))))), tt)) (Stops-arguments us))
+      ∙ run-follows f n m (d + 1) 1 (Target d ∷ K) us Arguments (omega arith) (λ i. ((refl, (refl, (refl, (refl, (refl, refl))))), tt)) (Stops-arguments us))
   run-derives (some_arguments {ts = ts} {e = e} {h = h} f) n d K us b q =
       run-arguments n (ts ++ us) d K (Unopened-arguments f us)
       ∙ run-follows f n 0 (d + 0) 0 K us Arguments (omega arith) (arguments_parts Arguments) (Stops-arguments us)
       ∙ ap (λ x. run n us (Have e x K)) (omega arith)
 
-  pub run-follows : {r : Rest} {ts : List Token} {e : Tree} {h : ℕ} → Follows r ts e h
-      → (n m d c : ℕ) (K : List Frame) (us : List Token) (s0 : Phrase) →
+  pub run-follows : {r : Rest} {ts : List Token} {e : Tree} {h : ℕ} → Follows r ts e h → (n m d c : ℕ) (K : List Frame) (us : List Token) (s0 : Phrase) →
       d + h ≤ n → Parts s0 r → Stops s0 us → run n (ts ++ us) (Next r m d c K) ≡ run n us (Have e (max m h + c) K)
-  run-follows (ended {e = e}) n m d c K us s0 w p q =
-      run-done n us e m d c K ∙ ap (λ x. run n us (Have e (x + c) K)) (omega arith)
+  run-follows (ended {e = e}) n m d c K us s0 w p q = run-done n us e m d c K ∙ ap (λ x. run n us (Have e (x + c) K)) (omega arith)
   run-follows (taken {w = v} {t = t} {r = r} {ts = ts} i f) n m d c K us s0 w p q =
       run-word n t (ts ++ us) v r m d c K i ∙ run-follows f n m d c K us s0 w p q
   run-follows (chosen {w = v} {t = t} {r = r} {q = o} {ts = ts} i f) n m d c K us s0 w p q =
@@ -502,24 +474,19 @@ mutual
       run-unlifted n (ts ++ us) j v r o m d c K (Follows-bars f s0 v us p.0 q) ∙ run-follows f n m d c K us s0 w p.2 q
 
 -- where a definition can come, it is wanted at once
-run-begin : (n : ℕ) (t : Token) (ts : List Token) (ds : List Tree) (e : Tree)
-    → run n (t ∷ ts) (Want Definition 0 (Outer ds ∷ [])) ≡ Accepted e →
+run-begin : (n : ℕ) (t : Token) (ts : List Token) (ds : List Tree) (e : Tree) → run n (t ∷ ts) (Want Definition 0 (Outer ds ∷ [])) ≡ Accepted e →
     run n (t ∷ ts) (Begin ds) ≡ Accepted e
 unfolding run
 run-begin n t ts ds e h = begun (wants t Definition 0 (Outer ds ∷ [])) h
   where
-    begun : (m : Option Move)
-        → pick m (λ m. cond (leb m.need n) (run n ts m.next) (Refused true t.start)) (Refused false t.start)
-        ≡ Accepted e →
-        pick (pick m (λ m. Some m) (ends t.kind (ahead ds none)))
-        (λ m. cond (leb m.need n) (run n ts m.next) (Refused true t.start)) (Refused false t.start)
+    begun : (m : Option Move) → pick m (λ m. cond (leb m.need n) (run n ts m.next) (Refused true t.start)) (Refused false t.start) ≡ Accepted e →
+        pick (pick m (λ m. Some m) (ends t.kind (ahead ds none))) (λ m. cond (leb m.need n) (run n ts m.next) (Refused true t.start)) (Refused false t.start)
         ≡ Accepted e
     begun None q = cc
     begun (Some m) q = q
 
 -- the same, of any tokens
-run-begun : (n : ℕ) (ts : List Token) (ds : List Tree) (e : Tree)
-    → run n ts (Want Definition 0 (Outer ds ∷ [])) ≡ Accepted e → run n ts (Begin ds) ≡ Accepted e
+run-begun : (n : ℕ) (ts : List Token) (ds : List Tree) (e : Tree) → run n ts (Want Definition 0 (Outer ds ∷ [])) ≡ Accepted e → run n ts (Begin ds) ≡ Accepted e
 unfolding run
 run-begun n [] ds e h = cc
 run-begun n (t ∷ ts) ds e h = run-begin n t ts ds e h
@@ -530,19 +497,16 @@ ahead-append [] d e = refl
 ahead-append (a ∷ ds) d e = ap (λ b. more a b) (ahead-append ds d e)
 
 -- behind definitions a program is accepted within its height
-run-defined : {ts : List Token} {e : Tree} {h : ℕ} → Program ts e h → (n : ℕ) → h ≤ n → (ds : List Tree)
-    → run n ts (Begin ds) ≡ Accepted (ahead ds e)
+run-defined : {ts : List Token} {e : Tree} {h : ℕ} → Program ts e h → (n : ℕ) → h ≤ n → (ds : List Tree) → run n ts (Begin ds) ≡ Accepted (ahead ds e)
 unfolding run
 run-defined (empty {t = t} q) n w ds = rw (q, leb-zero n) refl
 run-defined (defined {us = us} {ts = ts} {a = a} {e = e} {m = m} x p) n w ds =
     run-begun n (us ++ ts) ds (ahead ds (more a e))
-    (run-derives x n 0 (Outer ds ∷ []) ts (omega arith) tt ∙ run-outer n ts a m ds
-    ∙ run-defined p n (omega arith) (ds ++ a ∷ []) ∙
+    (run-derives x n 0 (Outer ds ∷ []) ts (omega arith) tt ∙ run-outer n ts a m ds ∙ run-defined p n (omega arith) (ds ++ a ∷ []) ∙
     ap Accepted (ahead-append ds a e))
 
 -- a program is accepted within its height
-pub run-program : {ts : List Token} {e : Tree} {h : ℕ} → Program ts e h → (n : ℕ) → h ≤ n
-    → run n ts (Begin []) ≡ Accepted e
+pub run-program : {ts : List Token} {e : Tree} {h : ℕ} → Program ts e h → (n : ℕ) → h ≤ n → run n ts (Begin []) ≡ Accepted e
 run-program p n w = run-defined p n w []
 
 -- tokens that are accepted have one tree

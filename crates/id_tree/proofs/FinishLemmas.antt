@@ -1,14 +1,12 @@
 -- Whatever stands in the machine can be gone on to a program, by tokens whose starts rise from any number on.
-use Rattle.std.proofs.Common.{◌≡◌, ℕ, ◌+◌, ◌≤◌, max, List, [], ◌∷◌, ◌++◌, pos, refl, sym, ap, ◌∙◌, subst, append_assoc}
-use Rattle.std.proofs.Common.{append-nil, arith, zero-le}
+use Rattle.std.proofs.Common.{◌≡◌, ℕ, ◌+◌, ◌≤◌, max, List, [], ◌∷◌, ◌++◌, pos, refl, sym, ap, ◌∙◌, subst, append_assoc, append-nil, arith, zero-le}
 use Rattle.id_text.specs.Tokens.{Rises}
 use Rattle.id_text.specs.declared.token.Token.{Token}
 use Rattle.id_text.specs.declared.token.TokenKind.{TokenKind}
 use Rattle.id_text.specs.declared.token.TokenKind.TheVariants.{Name, Number, Key, Sign, End}
 use Rattle.id_text.specs.declared.token.Keyword.{Keyword}
 use Rattle.id_text.specs.declared.token.Keyword.TheVariants.{Def, Finally, In, Int}
-use Rattle.id_text.specs.declared.token.Symbol.TheVariants.{LeftParen, RightParen, RightBrace, Colon, Becomes}
-use Rattle.id_text.specs.declared.token.Symbol.TheVariants.{Semicolon}
+use Rattle.id_text.specs.declared.token.Symbol.TheVariants.{LeftParen, RightParen, RightBrace, Colon, Becomes, Semicolon}
 use Rattle.id_grammar.specs.declared.phrase.Level.TheVariants as level
 use Rattle.id_grammar.specs.declared.phrase.Scope.{Scope}
 use Rattle.id_grammar.specs.declared.phrase.Scope.TheVariants as scope
@@ -22,8 +20,7 @@ use Rattle.id_grammar.specs.Grammar.{last_parameter, number, no_arguments, last_
 use Rattle.id_grammar.specs.Grammar.{Derives, opened, unconditional, single, grouped, plain, bare, atomic, Follows}
 use Rattle.id_grammar.specs.Grammar.{ended, taken, left_out, named, kinded, given, Program, empty, defined}
 use Rattle.id_grammar.specs.Machine.{least_height, Frame, State}
-use Rattle.id_grammar.specs.Standing.{sizing, Roomy, Around, outermost, unconditionally, left, right, plainly, barely}
-use Rattle.id_grammar.specs.Standing.{target}
+use Rattle.id_grammar.specs.Standing.{sizing, Roomy, Around, outermost, unconditionally, left, right, plainly, barely, target}
 use Rattle.id_grammar.specs.Standing.{atomically, inside, Stands, begun, wanting, having, within, finished}
 
 -- the starts rise from the first number on and stay below the second
@@ -37,8 +34,7 @@ Laid-lower [] low mid high w q = omega arith
 Laid-lower (t ∷ ts) low mid high w q = (omega (arith, q.0), q.1)
 
 -- what is laid behind what is laid
-pub Laid-append : (us vs : List Token) (low mid high : ℕ) → Laid low us mid → Laid mid vs high
-    → Laid low (us ++ vs) high
+pub Laid-append : (us vs : List Token) (low mid high : ℕ) → Laid low us mid → Laid mid vs high → Laid low (us ++ vs) high
 Laid-append [] vs low mid high p q = Laid-lower vs low mid high p q
 Laid-append (t ∷ us) vs low mid high p q = (p.0, Laid-append us vs (t.start + 1) mid high p.1 q)
 
@@ -53,8 +49,7 @@ Rises-laid [] low high p = tt
 Rises-laid (t ∷ []) low high p = tt
 Rises-laid (t ∷ u ∷ ts) low high p = (omega (arith, p.1.0), Rises-laid (u ∷ ts) (t.start + 1) high p.1)
 
-Laid-from : (t : Token) (ts : List Token) (low : ℕ) → low ≤ t.start → Rises (t ∷ ts)
-    → (high : ℕ) × Laid low (t ∷ ts) high
+Laid-from : (t : Token) (ts : List Token) (low : ℕ) → low ≤ t.start → Rises (t ∷ ts) → (high : ℕ) × Laid low (t ∷ ts) high
 Laid-from t [] low w q = (t.start + 1, (w, omega arith))
 Laid-from t (u ∷ ts) low w q = let r = Laid-from u ts (t.start + 1) (omega (arith, q.0)) q.1 in (r.0, (w, r.1))
 
@@ -85,36 +80,24 @@ least_number from = record {
 }
 
 least_unary : (from : ℕ) → Least Unary from
-least_unary from =
-    let l = least_number from in
-    record { tokens = l.tokens; tree = l.tree; to = l.to; laid = l.laid; derives = bare (atomic l.derives) }
+least_unary from = let l = least_number from in record { tokens = l.tokens; tree = l.tree; to = l.to; laid = l.laid; derives = bare (atomic l.derives) }
 
 least_sum : (from : ℕ) → Least (Grouped level.Sum) from
-least_sum from =
-    let l = least_unary from in
-    record { tokens = l.tokens; tree = l.tree; to = l.to; laid = l.laid; derives = single (single l.derives) }
+least_sum from = let l = least_unary from in record { tokens = l.tokens; tree = l.tree; to = l.to; laid = l.laid; derives = single (single l.derives) }
 
 least_negation : (from : ℕ) → Least Negation from
-least_negation from =
-    let l = least_sum from in
-    record { tokens = l.tokens; tree = l.tree; to = l.to; laid = l.laid; derives = plain (single l.derives) }
+least_negation from = let l = least_sum from in record { tokens = l.tokens; tree = l.tree; to = l.to; laid = l.laid; derives = plain (single l.derives) }
 
 least_or : (from : ℕ) → Least (Grouped level.Or) from
-least_or from =
-    let l = least_negation from in
-    record { tokens = l.tokens; tree = l.tree; to = l.to; laid = l.laid; derives = single (single l.derives) }
+least_or from = let l = least_negation from in record { tokens = l.tokens; tree = l.tree; to = l.to; laid = l.laid; derives = single (single l.derives) }
 
 least_expression : (from : ℕ) → Least Expression from
-least_expression from =
-    let l = least_or from in
-    record { tokens = l.tokens; tree = l.tree; to = l.to; laid = l.laid; derives = unconditional l.derives }
+least_expression from = let l = least_or from in record { tokens = l.tokens; tree = l.tree; to = l.to; laid = l.laid; derives = unconditional l.derives }
 
 least_definition : (from : ℕ) → Least Expression (from + 7) → Least Definition from
 least_definition from body = record {
-  tokens = token (Key Def) from ∷ token (Name []) (from + 1) ∷ token (Sign LeftParen) (from + 2)
-      ∷ token (Sign RightParen) (from + 3)
-      ∷ token (Sign Colon) (from + 4) ∷ token (Key Int) (from + 5) ∷ token (Sign Becomes) (from + 6)
-      ∷ (body.tokens ++ token (Sign Semicolon) body.to ∷ []);
+  tokens = token (Key Def) from ∷ token (Name []) (from + 1) ∷ token (Sign LeftParen) (from + 2) ∷ token (Sign RightParen) (from + 3)
+      ∷ token (Sign Colon) (from + 4) ∷ token (Key Int) (from + 5) ∷ token (Sign Becomes) (from + 6) ∷ (body.tokens ++ token (Sign Semicolon) body.to ∷ []);
   tree = _;
   to = body.to + 1;
   laid = (
@@ -131,10 +114,8 @@ least_definition from body = record {
               omega arith,
               (
                 omega arith,
-                Laid-lower (body.tokens ++ token (Sign Semicolon) body.to ∷ []) (from + 6 + 1) (from + 7) (body.to + 1)
-                    (omega arith)
-                    (Laid-append body.tokens (token (Sign Semicolon) body.to ∷ []) (from + 7) body.to (body.to + 1)
-                    body.laid (omega arith, omega arith)),
+                Laid-lower (body.tokens ++ token (Sign Semicolon) body.to ∷ []) (from + 6 + 1) (from + 7) (body.to + 1) (omega arith)
+                    (Laid-append body.tokens (token (Sign Semicolon) body.to ∷ []) (from + 7) body.to (body.to + 1) body.laid (omega arith, omega arith)),
               ),
             ),
           ),
@@ -146,32 +127,24 @@ least_definition from body = record {
       (taken refl (kinded refl (taken refl (given body.derives (taken refl ended))))))));
 }
 
-least_tail : (o : Scope) (k : Keyword) (from : ℕ) → Opens (Tail o) (Key k) from last_of → Least Expression (from + 1)
-    → Least (Tail o) from
+least_tail : (o : Scope) (k : Keyword) (from : ℕ) → Opens (Tail o) (Key k) from last_of → Least Expression (from + 1) → Least (Tail o) from
 least_tail o k from opens body = record {
   tokens = token (Key k) from ∷ (body.tokens ++ token (Sign RightBrace) body.to ∷ []);
   tree = _;
   to = body.to + 1;
-  laid = (
-    omega arith,
-    Laid-append body.tokens (token (Sign RightBrace) body.to ∷ []) (from + 1) body.to (body.to + 1) body.laid
-        (omega arith, omega arith),
-  );
+  laid = (omega arith, Laid-append body.tokens (token (Sign RightBrace) body.to ∷ []) (from + 1) body.to (body.to + 1) body.laid (omega arith, omega arith));
   derives = opened opens (given body.derives (taken refl ended));
 }
 
 least : (s : Phrase) (from : ℕ) → Least s from
 least Atom from = least_number from
-least Postfix from =
-    let l = least_number from in
-    record { tokens = l.tokens; tree = l.tree; to = l.to; laid = l.laid; derives = atomic l.derives }
+least Postfix from = let l = least_number from in record { tokens = l.tokens; tree = l.tree; to = l.to; laid = l.laid; derives = atomic l.derives }
 least Unary from = least_unary from
 least (Grouped level.Product) from = let l = least_unary from in
     record { tokens = l.tokens; tree = l.tree; to = l.to; laid = l.laid; derives = single l.derives }
 least (Grouped level.Sum) from = least_sum from
 least (Grouped level.Comparison) from =
-    let l = least_sum from in
-    record { tokens = l.tokens; tree = l.tree; to = l.to; laid = l.laid; derives = single l.derives }
+    let l = least_sum from in record { tokens = l.tokens; tree = l.tree; to = l.to; laid = l.laid; derives = single l.derives }
 least (Grouped level.And) from = let l = least_negation from in
     record { tokens = l.tokens; tree = l.tree; to = l.to; laid = l.laid; derives = single l.derives }
 least Expression from = least_expression from
@@ -221,8 +194,7 @@ record Finish (n d from : ℕ) (r : Rest) : Type 0 where
 
 -- what is left of a production can always be finished
 finish : (r : Rest) (n d from : ℕ) → d ≤ n → Roomy n d r → Finish n d from r
-finish (done e) n d from w roomy =
-    record { tokens = []; tree = e; height = 0; to = from; laid = omega arith; follows = ended; fits = omega arith }
+finish (done e) n d from w roomy = record { tokens = []; tree = e; height = 0; to = from; laid = omega arith; follows = ended; fits = omega arith }
 finish (word v r) n d from w roomy =
     let f = finish r n d (from + 1) w roomy in
     record {
@@ -236,16 +208,7 @@ finish (word v r) n d from w roomy =
     }
 finish (either v r o) n d from w roomy =
     let f = finish o n d from w roomy.1 in
-    record {
-      tokens = f.tokens;
-      tree = f.tree;
-      height = f.height;
-      to = f.to;
-      laid = f.laid;
-      follows =
-          left_out f.follows;
-      fits = f.fits;
-    }
+    record { tokens = f.tokens; tree = f.tree; height = f.height; to = f.to; laid = f.laid; follows = left_out f.follows; fits = f.fits }
 finish (name g) n d from w roomy =
     let f = finish (g [] from) n d (from + 1) w (roomy [] from) in
     record {
@@ -294,16 +257,7 @@ finish (sized s g) n d from w roomy =
     }
 finish (raised j v r o) n d from w roomy =
     let f = finish o n d from w roomy.1 in
-    record {
-      tokens = f.tokens;
-      tree = f.tree;
-      height = f.height;
-      to = f.to;
-      laid = f.laid;
-      follows =
-          unlifted f.follows;
-      fits = f.fits;
-    }
+    record { tokens = f.tokens; tree = f.tree; height = f.height; to = f.to; laid = f.laid; follows = unlifted f.follows; fits = f.fits }
 
 -- the tokens go on to a program of at most this height
 pub record Completed (n from : ℕ) (us : List Token) : Type 0 where
@@ -321,8 +275,7 @@ Program-at {e = e} {h = h} q p = subst (λ xs. Program xs e h) q p
 Completed-at : {n from : ℕ} {us vs : List Token} → us ≡ vs → Completed n from us → Completed n from vs
 Completed-at {n = n} {from = from} q p = subst (λ xs. Completed n from xs) q p
 
-Completed-more : (n from mid : ℕ) (us ws : List Token) → Laid from ws mid → Completed n mid (us ++ ws)
-    → Completed n from us
+Completed-more : (n from mid : ℕ) (us ws : List Token) → Laid from ws mid → Completed n mid (us ++ ws) → Completed n from us
 Completed-more n from mid us ws l c = record {
   behind = ws ++ c.behind;
   tree = c.tree;
@@ -389,14 +342,6 @@ Stands-completed {n = n} (within {s = s} {r = r} {d = d} {h = h} {us = us} {vs =
     let g = finish r n (d + own_height s) from (omega arith) roomy in
     Completed-more n from g.to (us ++ vs) g.tokens g.laid
     (Completed-at (sym (append_assoc us vs g.tokens))
-    (Around-completed a (vs ++ g.tokens) g.tree (max h g.height + own_height s) g.to
-    (b.completes g.tokens g.tree g.height g.follows) (omega (arith, g.fits))))
-Stands-completed (finished {us = us} {h = h} p w) from = record {
-  behind = [];
-  tree = _;
-  height = h;
-  to = from;
-  laid = omega arith;
-  derives = Program-at (sym (append-nil us)) p;
-  fits = w;
-}
+    (Around-completed a (vs ++ g.tokens) g.tree (max h g.height + own_height s) g.to (b.completes g.tokens g.tree g.height g.follows) (omega (arith, g.fits))))
+Stands-completed (finished {us = us} {h = h} p w) from = record
+    { behind = []; tree = _; height = h; to = from; laid = omega arith; derives = Program-at (sym (append-nil us)) p; fits = w }

@@ -27,8 +27,7 @@ Misranges-name d (inr q) = record {
 
 -- a name comes, then the arrow, then the lower bound
 module _ {ts us : List Token} {x : List ℕ} {q : ℕ} (d : ℕ) (named : BeginsWithName ts x q us) where
-  name_comes : (p m c : ℕ) (K : List Frame)
-      → run 200 ts (Next (for_of p) m d c K) ≡ run 200 us (Next (indexed_of p x q) m d c K)
+  name_comes : (p m c : ℕ) (K : List Frame) → run 200 ts (Next (for_of p) m d c K) ≡ run 200 us (Next (indexed_of p x q) m d c K)
   name_comes p m c K = rw (named.whole, ← named.place) (run-name 200 named.token us x (indexed_of p) m d c K named.kind)
 
   pub Misranges-arrow : {y : TreeError} → Misses (word (the.Sign Arrow)) us y → Misranges ts d y
@@ -42,8 +41,7 @@ module _ {ts us : List Token} {x : List ℕ} {q : ℕ} (d : ℕ) (named : Begins
     arrow_comes p m c K = name_comes p m c K ∙ arrow.comes (enclosed (the.Key To) (upper_of p x q)) m d c K
 
     pub Misranges-low : {y : TreeError} → Exposes vs d (the.Key To) y → Misranges ts d y
-    Misranges-low {y = y} f =
-        record { fails = λ p m c K. EndsBy-at y (arrow_comes p m c K) (f.fails (upper_of p x q) m c K) }
+    Misranges-low {y = y} f = record { fails = λ p m c K. EndsBy-at y (arrow_comes p m c K) (f.fails (upper_of p x q) m c K) }
 
     module _ {ws : List Token} {low : Tree} {h : ℕ} (lower : Encloses vs d (the.Key To) ws low h) where
       low_comes : (p m c : ℕ) (K : List Frame) →

@@ -11,11 +11,9 @@ use Rattle.id_grammar.specs.Readers.{EndsBy}
 use Rattle.id_grammar.specs.Grammar.{sized, raised}
 use Rattle.id_grammar.specs.Grammar.{Phrase, Rest, done, word, either, name, of_kind, part, own_height, Program}
 use Rattle.id_tree.specs.Accepted.{Accepts, GoesOn, GoesOnDeeper, StopsAt, RefusedBy, IsMemory}
-use Rattle.id_grammar.specs.Machine.{Move, pick, takes, Frame, State, Begin, Want, Have, Next, Finished, Accepted}
-use Rattle.id_grammar.specs.Machine.{Refused, run}
+use Rattle.id_grammar.specs.Machine.{Move, pick, takes, Frame, State, Begin, Want, Have, Next, Finished, Accepted, Refused, run}
 use Rattle.id_grammar.specs.Standing.{Around, outermost, unconditionally, left, right, plainly, barely, target}
-use Rattle.id_grammar.specs.Standing.{atomically, inside, sizing, Stands, begun, wanting, having, within, finished}
-use Rattle.id_grammar.specs.Standing.{Roomy}
+use Rattle.id_grammar.specs.Standing.{atomically, inside, sizing, Stands, begun, wanting, having, within, finished, Roomy}
 use Rattle.id_grammar.proofs.RunLemmas.{run-step, run-none, run-deep}
 use Rattle.id_tree.proofs.CompleteLemmas.{run-program}
 use Rattle.id_tree.proofs.SoundLemmas.{Moves, Moves-takes, Defined-none}
@@ -50,8 +48,7 @@ Stands-at : {n : ℕ} {S : State} {us vs : List Token} → us ≡ vs → Stands 
 Stands-at {n = n} {S = S} e h = subst (λ xs. Stands n S xs) e h
 
 -- a run stops at its first token
-Stopped-here : (n : ℕ) (S : State) (us : List Token) (t : Token) (ts : List Token) (deep given : Bool) (at : ℕ)
-    → Stands n S us → Why n given (takes t S) →
+Stopped-here : (n : ℕ) (S : State) (us : List Token) (t : Token) (ts : List Token) (deep given : Bool) (at : ℕ) → Stands n S us → Why n given (takes t S) →
     Refused given t.start ≡ Refused deep at → Stopped n S us (t ∷ ts) deep at
 Stopped-here n S us t ts deep given at st why q = record {
   front = [];
@@ -66,8 +63,7 @@ Stopped-here n S us t ts deep given at st why q = record {
 }
 
 -- a run stops behind its first token
-Stopped-later : (n : ℕ) (S : State) (us : List Token) (t : Token) (ts : List Token) (deep : Bool) (at : ℕ) (m : Move)
-    → takes t S ≡ Some m → m.need ≤ n →
+Stopped-later : (n : ℕ) (S : State) (us : List Token) (t : Token) (ts : List Token) (deep : Bool) (at : ℕ) (m : Move) → takes t S ≡ Some m → m.need ≤ n →
     Stopped n m.next (us ++ t ∷ []) ts deep at → Stopped n S us (t ∷ ts) deep at
 Stopped-later n S us t ts deep at m q w r = record {
   front = t ∷ r.front;
@@ -83,30 +79,24 @@ Stopped-later n S us t ts deep at m q w r = record {
 
 -- the first token's move, where the run behind it stops if it is refused
 module _ (n : ℕ) (S : State) (us : List Token) (t : Token) (ts : List Token) (deep : Bool) (at : ℕ) (st : Stands n S us)
-    (later : (T : State) (vs : List Token) → Stands n T vs → run n ts T ≡ Refused deep at
-    → Stopped n T vs ts deep at) where
-  Stopped-test : (m : Move) → takes t S ≡ Some m → (b : Bool) → leb m.need n ≡ b
-      → cond b (run n ts m.next) (Refused true t.start) ≡ Refused deep at →
+    (later : (T : State) (vs : List Token) → Stands n T vs → run n ts T ≡ Refused deep at → Stopped n T vs ts deep at) where
+  Stopped-test : (m : Move) → takes t S ≡ Some m → (b : Bool) → leb m.need n ≡ b → cond b (run n ts m.next) (Refused true t.start) ≡ Refused deep at →
       Stopped n S us (t ∷ ts) deep at
   Stopped-test m e true i r =
       let w = leb-true m.need n i in
-      Stopped-later n S us t ts deep at m e w
-      (later m.next (us ++ t ∷ []) ((subst (λ o. Moves n (us ++ t ∷ []) o) e (Moves-takes n t st)) w) r)
+      Stopped-later n S us t ts deep at m e w (later m.next (us ++ t ∷ []) ((subst (λ o. Moves n (us ++ t ∷ []) o) e (Moves-takes n t st)) w) r)
   Stopped-test m e false i r = Stopped-here n S us t ts deep true at st (m, e, leb-false m.need n i) r
 
-  Stopped-move : (o : Option Move) → takes t S ≡ o
-      → pick o (λ m. cond (leb m.need n) (run n ts m.next) (Refused true t.start)) (Refused false t.start) ≡
+  Stopped-move : (o : Option Move) → takes t S ≡ o → pick o (λ m. cond (leb m.need n) (run n ts m.next) (Refused true t.start)) (Refused false t.start) ≡
       Refused deep at → Stopped n S us (t ∷ ts) deep at
   Stopped-move None e r = Stopped-here n S us t ts deep false at st e r
   Stopped-move (Some m) e r = Stopped-test m e (leb m.need n) refl r
 
 -- each refused run stops so
-stopped : (n : ℕ) (S : State) (us ts : List Token) (deep : Bool) (at : ℕ) → Stands n S us → run n ts S ≡ Refused deep at
-    → Stopped n S us ts deep at
+stopped : (n : ℕ) (S : State) (us ts : List Token) (deep : Bool) (at : ℕ) → Stands n S us → run n ts S ≡ Refused deep at → Stopped n S us ts deep at
 unfolding run
 stopped n S us [] deep at st q = absurd (run-nothing n S deep at q)
-stopped n S us (t ∷ ts) deep at st q =
-    Stopped-move n S us t ts deep at st (λ T vs. stopped n T vs ts deep at) (takes t S) refl q
+stopped n S us (t ∷ ts) deep at st q = Stopped-move n S us t ts deep at st (λ T vs. stopped n T vs ts deep at) (takes t S) refl q
 
 Roomy-wider : (n m d : ℕ) (r : Rest) → n ≤ m → Roomy n d r → Roomy m d r
 Roomy-wider n m d (done e) w q = tt
@@ -118,8 +108,7 @@ Roomy-wider n m d (part s f) w q = (omega (arith, q.0), λ a. Roomy-wider n m d 
 Roomy-wider n m d (sized s f) w q = (omega (arith, q.0), λ a h. Roomy-wider n m d (f a h) w (q.1 a h))
 Roomy-wider n m d (raised j v r o) w q = (λ p. Roomy-wider n m d (r p) w (q.0 p), Roomy-wider n m d o w q.1)
 
-Around-wider : {n : ℕ} {s : Phrase} {d : ℕ} {K : List Frame} {us : List Token} → Around n s d K us → (m : ℕ) → n ≤ m
-    → Around m s d K us
+Around-wider : {n : ℕ} {s : Phrase} {d : ℕ} {K : List Frame} {us : List Token} → Around n s d K us → (m : ℕ) → n ≤ m → Around m s d K us
 Around-wider (outermost p v) m w = outermost p (omega arith)
 Around-wider (left a) m w = left (Around-wider a m w)
 Around-wider (right a y t q fit) m w = right (Around-wider a m w) y t q (omega arith)
@@ -207,34 +196,28 @@ module _ (ts : List Token) (rises : Rises ts) (at : ℕ) where
   deeper r =
       let m = r.why.0 in
       let st = Stands-wider r.stands m.need (omega (arith, r.why.2)) in
-      let next =
-      (subst (λ o. Moves m.need (r.front ++ r.token ∷ []) o) r.why.1 (Moves-takes m.need r.token st)) (omega arith) in
-      goes_deeper m.need (r.front ++ r.token ∷ []) r.behind m.next
-      (subst Rises (r.whole ∙ sym (append_assoc r.front (r.token ∷ []) r.behind)) rises) next
+      let next = (subst (λ o. Moves m.need (r.front ++ r.token ∷ []) o) r.why.1 (Moves-takes m.need r.token st)) (omega arith) in
+      goes_deeper m.need (r.front ++ r.token ∷ []) r.behind m.next (subst Rises (r.whole ∙ sym (append_assoc r.front (r.token ∷ []) r.behind)) rises) next
 
   -- a run that refuses without regard to nesting
   pub Refused-unexpected : run 200 ts (Begin []) ≡ Refused false at → RefusedBy ts (Unexpected at)
-  Refused-unexpected q =
-      let r = stopped 200 (Begin []) [] ts false at (begun Defined-none zero-le) q in (stops_at false r, no_deeper r)
+  Refused-unexpected q = let r = stopped 200 (Begin []) [] ts false at (begun Defined-none zero-le) q in (stops_at false r, no_deeper r)
 
   -- a run that refuses for the nesting
   pub Refused-deep : run 200 ts (Begin []) ≡ Refused true at → RefusedBy ts (TooDeep at)
-  Refused-deep q =
-      let r = stopped 200 (Begin []) [] ts true at (begun Defined-none zero-le) q in (stops_at true r, deeper r)
+  Refused-deep q = let r = stopped 200 (Begin []) [] ts true at (begun Defined-none zero-le) q in (stops_at true r, deeper r)
 
 -- the tokens are a program that fits
 abbrev IsWhole : ℕ → List Token → Tree → Type 0
 IsWhole n ts e = (h : ℕ) × Program ts e h × (h ≤ n)
 
-Whole-end : {n : ℕ} {S : State} {us : List Token} → Stands n S us → (e : Tree) → run n [] S ≡ Accepted e
-    → IsWhole n us e
+Whole-end : {n : ℕ} {S : State} {us : List Token} → Stands n S us → (e : Tree) → run n [] S ≡ Accepted e → IsWhole n us e
 unfolding run
 Whole-end (begun p w) e q = cc
 Whole-end (wanting a w) e q = cc
 Whole-end (having a x w) e q = cc
 Whole-end (within a b w roomy) e q = cc
-Whole-end {n = n} (finished {us = us} {e = f} {h = h} p w) e q =
-    let i : f ≡ e = cc in subst (λ x. IsWhole n us x) i (h, p, w)
+Whole-end {n = n} (finished {us = us} {e = f} {h = h} p w) e q = let i : f ≡ e = cc in subst (λ x. IsWhole n us x) i (h, p, w)
 
 module _ (n : ℕ) (us : List Token) (t : Token) (ts : List Token) (e : Tree)
     (later : (T : State) → Stands n T (us ++ t ∷ []) → run n ts T ≡ Accepted e → IsWhole n (us ++ t ∷ ts) e) where
@@ -244,28 +227,22 @@ module _ (n : ℕ) (us : List Token) (t : Token) (ts : List Token) (e : Tree)
   Whole-test m st false i q = cc
 
   Whole-move : (o : Option Move) → Moves n (us ++ t ∷ []) o →
-      pick o (λ m. cond (leb m.need n) (run n ts m.next) (Refused true t.start)) (Refused false t.start) ≡ Accepted e
-      → IsWhole n (us ++ t ∷ ts) e
+      pick o (λ m. cond (leb m.need n) (run n ts m.next) (Refused true t.start)) (Refused false t.start) ≡ Accepted e → IsWhole n (us ++ t ∷ ts) e
   Whole-move None st q = cc
   Whole-move (Some m) st q = Whole-test m st (leb m.need n) refl q
 
 -- a run that accepts has taken a program
-Whole-run : (n : ℕ) (S : State) (us ts : List Token) (e : Tree) → Stands n S us → run n ts S ≡ Accepted e
-    → IsWhole n (us ++ ts) e
+Whole-run : (n : ℕ) (S : State) (us ts : List Token) (e : Tree) → Stands n S us → run n ts S ≡ Accepted e → IsWhole n (us ++ ts) e
 unfolding run
 Whole-run n S us [] e st q = subst (λ xs. IsWhole n xs e) (sym (append-nil us)) (Whole-end st e q)
 Whole-run n S us (t ∷ ts) e st q = Whole-move n us t ts e
-    (λ T s r. subst (λ xs. IsWhole n xs e) (append_assoc us (t ∷ []) ts) (Whole-run n T (us ++ t ∷ []) ts e s r))
-    (takes t S) (Moves-takes n t st) q
+    (λ T s r. subst (λ xs. IsWhole n xs e) (append_assoc us (t ∷ []) ts) (Whole-run n T (us ++ t ∷ []) ts e s r)) (takes t S) (Moves-takes n t st) q
 
 pub Accepts-from_run : (ts : List Token) (e : Tree) → run 200 ts (Begin []) ≡ Accepted e → Accepts ts e
-Accepts-from_run ts e q =
-    let p = Whole-run 200 (Begin []) [] ts e (begun Defined-none zero-le) q in
-    record { height = p.0; derives = p.1; fits = p.2 }
+Accepts-from_run ts e q = let p = Whole-run 200 (Begin []) [] ts e (begun Defined-none zero-le) q in record { height = p.0; derives = p.1; fits = p.2 }
 
 -- a run's end settles all that `parse` promises
-pub RefusedBy-from_run : (ts : List Token) (x : TreeError) → Rises ts → EndsBy (run 200 ts (Begin [])) x
-    → RefusedBy ts x
+pub RefusedBy-from_run : (ts : List Token) (x : TreeError) → Rises ts → EndsBy (run 200 ts (Begin [])) x → RefusedBy ts x
 RefusedBy-from_run ts (Unexpected at) q r = Refused-unexpected ts q at r
 RefusedBy-from_run ts (TooDeep at) q r = Refused-deep ts q at r
 RefusedBy-from_run ts Memory q r = tt
@@ -273,10 +250,7 @@ RefusedBy-from_run ts Memory q r = tt
 pub Same-from_run : (ts : List Token) (a e : Tree) → run 200 ts (Begin []) ≡ Accepted a → Accepts ts e → a ≡ e
 Same-from_run ts a e q p = let both : Accepted a ≡ Accepted e = sym q ∙ run-program p.derives 200 p.fits in cc
 
-pub IsMemory-from_run : (ts : List Token) (x : TreeError) (e : Tree) → EndsBy (run 200 ts (Begin [])) x → Accepts ts e
-    → IsMemory x
-IsMemory-from_run ts (Unexpected at) e q p =
-    let both : Refused false at ≡ Accepted e = sym q ∙ run-program p.derives 200 p.fits in cc
-IsMemory-from_run ts (TooDeep at) e q p =
-    let both : Refused true at ≡ Accepted e = sym q ∙ run-program p.derives 200 p.fits in cc
+pub IsMemory-from_run : (ts : List Token) (x : TreeError) (e : Tree) → EndsBy (run 200 ts (Begin [])) x → Accepts ts e → IsMemory x
+IsMemory-from_run ts (Unexpected at) e q p = let both : Refused false at ≡ Accepted e = sym q ∙ run-program p.derives 200 p.fits in cc
+IsMemory-from_run ts (TooDeep at) e q p = let both : Refused true at ≡ Accepted e = sym q ∙ run-program p.derives 200 p.fits in cc
 IsMemory-from_run ts Memory e q p = refl

@@ -11,8 +11,7 @@ use Rattle.id_grammar.specs.Tree.{Tree, binding, fetch, next, store, param, none
 use Rattle.id_text.specs.declared.token.Symbol.TheVariants.{Becomes}
 use Rattle.id_grammar.specs.Grammar.{MoreParameters, body_of, sign, sized, raised, measured, lifted, unlifted, deepened}
 use Rattle.id_grammar.specs.Grammar.{Phrase, Rest, done, word, either, name, of_kind, part, with_statement, with_tail}
-use Rattle.id_grammar.specs.Grammar.{loop_with_tail, for_with_tail, Opens, definition, no_parameters, first_parameter}
-use Rattle.id_grammar.specs.Grammar.{last_parameter}
+use Rattle.id_grammar.specs.Grammar.{loop_with_tail, for_with_tail, Opens, definition, no_parameters, first_parameter, last_parameter}
 use Rattle.id_grammar.specs.Grammar.{next_parameter, by_conditional, denied, negated, number, by_true, by_false, parens}
 use Rattle.id_grammar.specs.Grammar.{by_name, by_array, by_braces, no_arguments, last_argument, next_argument}
 use Rattle.id_grammar.specs.Grammar.{by_statement, by_next, by_body, by_last, Derives, opened, unconditional, single}
@@ -54,8 +53,7 @@ module _ (P : ℕ → Type 0) where
   of_part a g h q (inl i) = at_own i g
   of_part a g h q (inr i) = h q i
 
-  of_parts : {p : ℕ} (a b : Tree) → P p → AllPlaced P a → AllPlaced P b → (q : ℕ)
-      → (p ≡ q) ⊎ (HasPlace a q ⊎ HasPlace b q) → P q
+  of_parts : {p : ℕ} (a b : Tree) → P p → AllPlaced P a → AllPlaced P b → (q : ℕ) → (p ≡ q) ⊎ (HasPlace a q ⊎ HasPlace b q) → P q
   of_parts a b u v w q (inl i) = at_own i u
   of_parts a b u v w q (inr (inl i)) = v q i
   of_parts a b u v w q (inr (inr i)) = w q i
@@ -99,16 +97,11 @@ module _ (P : ℕ → Type 0) where
   deepened_fills f h kind.Nested = h kind.Nested
 
   Opens-fills : {s : Phrase} {k : TokenKind} {p : ℕ} {r : Rest} → Opens s k p r → P p → Fills P r
-  Opens-fills definition g =
-      λ x q i a h. deepened_fills (λ k. sign Becomes (body_of x a k q)) (λ k e j. of_parts a e i h j)
+  Opens-fills definition g = λ x q i a h. deepened_fills (λ k. sign Becomes (body_of x a k q)) (λ k e j. of_parts a e i h j)
   Opens-fills no_parameters g = λ q h. absurd h
-  Opens-fills (first_parameter {x = x} {p = p}) g =
-      deepened_fills (λ k. part MoreParameters (λ a. done (more (param x k p) a)))
-      (λ k a h. of_both (param x k p) a (λ q i. at_own i g) h)
+  Opens-fills (first_parameter {x = x} {p = p}) g = deepened_fills (λ k. part MoreParameters (λ a. done (more (param x k p) a))) (λ k a h. of_both (param x k p) a (λ q i. at_own i g) h)
   Opens-fills last_parameter g = λ q h. absurd h
-  Opens-fills next_parameter g =
-      λ x p i. deepened_fills (λ k. part MoreParameters (λ a. done (more (param x k p) a)))
-      (λ k a h. of_both (param x k p) a (λ q j. at_own j i) h)
+  Opens-fills next_parameter g = λ x p i. deepened_fills (λ k. part MoreParameters (λ a. done (more (param x k p) a))) (λ k a h. of_both (param x k p) a (λ q j. at_own j i) h)
   Opens-fills by_conditional g = λ t h x i y j. of_three t x y g h i j
   Opens-fills denied g = λ e h. of_part e g h
   Opens-fills negated g = λ e h. of_part e g h
@@ -128,11 +121,9 @@ module _ (P : ℕ → Type 0) where
   Opens-fills (by_statement {x = x} {p = p}) g = (
     λ e i a h. of_statement (binding x e p) a (of_part e g i) h,
     λ q j i m h. (
-      λ e k a l. of_statement (store (tree.name x p) i e q) a (of_three (tree.name x p) i e j (λ r n. at_own n g) h k)
-          l,
+      λ e k a l. of_statement (store (tree.name x p) i e q) a (of_three (tree.name x p) i e j (λ r n. at_own n g) h k) l,
       λ o n b f e k a l. of_statement (store (fetch (tree.name x p) i q) b e o) a
-          (of_three (fetch (tree.name x p) i q) b e n (λ r z. of_parts (tree.name x p) i j (λ v y. at_own y g) h r z) f
-          k) l,
+          (of_three (fetch (tree.name x p) i q) b e n (λ r z. of_parts (tree.name x p) i j (λ v y. at_own y g) h r z) f k) l,
     ),
   )
   Opens-fills (by_next {p = p}) g = λ x q i e h a j. of_statement (next x e p) a (of_part e g h) j
@@ -148,14 +139,12 @@ module _ (P : ℕ → Type 0) where
   AllStart-back (t ∷ us) vs h = AllStart-back us vs h.1
 
   mutual
-    Derives-placed : {s : Phrase} {ts : List Token} {e : Tree} {h : ℕ} → Derives s ts e h → AllStart P ts
-        → AllPlaced P e
+    Derives-placed : {s : Phrase} {ts : List Token} {e : Tree} {h : ℕ} → Derives s ts e h → AllStart P ts → AllPlaced P e
     Derives-placed (opened o f) g = Follows-placed f (Opens-fills o g.0) g.1
     Derives-placed (unconditional d) g = Derives-placed d g
     Derives-placed (single d) g = Derives-placed d g
     Derives-placed (grouped {us = us} {vs = vs} {a = a} {b = b} x t i y) g = of_parts a b
-        (AllStart-back us (t ∷ vs) g).0 (Derives-placed x (AllStart-front us (t ∷ vs) g))
-        (Derives-placed y (AllStart-back us (t ∷ vs) g).1)
+        (AllStart-back us (t ∷ vs) g).0 (Derives-placed x (AllStart-front us (t ∷ vs) g)) (Derives-placed y (AllStart-back us (t ∷ vs) g).1)
     Derives-placed (plain d) g = Derives-placed d g
     Derives-placed (bare d) g = Derives-placed d g
     Derives-placed (atomic d) g = Derives-placed d g
@@ -164,16 +153,14 @@ module _ (P : ℕ → Type 0) where
         Follows-placed f (λ j h. of_parts a j back.0 (Derives-placed x (AllStart-front us (t ∷ vs) g)) h) back.1
     Derives-placed (some_arguments f) g = Follows-placed f (λ e h a i. of_both e a h i) g
 
-    Follows-placed : {r : Rest} {ts : List Token} {e : Tree} {h : ℕ} → Follows r ts e h → Fills P r → AllStart P ts
-        → AllPlaced P e
+    Follows-placed : {r : Rest} {ts : List Token} {e : Tree} {h : ℕ} → Follows r ts e h → Fills P r → AllStart P ts → AllPlaced P e
     Follows-placed ended k g = k
     Follows-placed (taken i f) k g = Follows-placed f k g.1
     Follows-placed (chosen {t = t} i f) k g = Follows-placed f (k.1 t.start g.0) g.1
     Follows-placed (left_out f) k g = Follows-placed f k.0 g
     Follows-placed (named {t = t} {x = x} i f) k g = Follows-placed f (k x t.start g.0) g.1
     Follows-placed (kinded {k = j} i f) k g = Follows-placed f (k j) g.1
-    Follows-placed (given {us = us} {ts = ts} {a = a} d f) k g =
-        Follows-placed f (k a (Derives-placed d (AllStart-front us ts g))) (AllStart-back us ts g)
+    Follows-placed (given {us = us} {ts = ts} {a = a} d f) k g = Follows-placed f (k a (Derives-placed d (AllStart-front us ts g))) (AllStart-back us ts g)
     Follows-placed (measured {us = us} {ts = ts} {a = a} {m = m} d f) k g =
         Follows-placed f (k a m (Derives-placed d (AllStart-front us ts g))) (AllStart-back us ts g)
     Follows-placed (lifted {t = t} i f) k g = Follows-placed f (k.1 t.start g.0) g.1
@@ -191,8 +178,7 @@ AllStart-weaker P Q f (t ∷ ts) h = (f t.start h.0, AllStart-weaker P Q f ts h.
 -- each token starts at the start of a token
 AllStart-own : (ts : List Token) → AllStart (λ q. StartsAt q ts) ts
 AllStart-own [] = tt
-AllStart-own (t ∷ ts) =
-    (inl refl, AllStart-weaker (λ q. StartsAt q ts) (λ q. StartsAt q (t ∷ ts)) (λ q h. inr h) ts (AllStart-own ts))
+AllStart-own (t ∷ ts) = (inl refl, AllStart-weaker (λ q. StartsAt q ts) (λ q. StartsAt q (t ∷ ts)) (λ q h. inr h) ts (AllStart-own ts))
 
 -- a program's things stand at starts of its tokens
 pub Program-starts : {ts : List Token} {e : Tree} {h : ℕ} → Program ts e h → PlacesAreStarts ts e

@@ -16,18 +16,10 @@ is_second-zero (b ∷ bs) =
     in rw head (is_second-zero bs)
 
 -- where an element passes after one that passed, the list has not one alone that passes
-pub filter-not_one : {X : Type 0} (p : X → Bool) (xs : List X) (i : ℕ) (d a b : X) → i < length xs
-    → filter p (take i xs) ≡ a ∷ [] →
+pub filter-not_one : {X : Type 0} (p : X → Bool) (xs : List X) (i : ℕ) (d a b : X) → i < length xs → filter p (take i xs) ≡ a ∷ [] →
     p (get_or xs i d) ≡ true → filter p xs ≡ b ∷ [] → ⊥
 filter-not_one p xs i d a b within one passes alone =
     let parts : filter p (take (i + 1) xs) ++ filter p (drop (i + 1) xs) ≡ b ∷ [] =
-    sym (filter-append p (take (i + 1) xs) (drop (i + 1) xs)) ∙ ap (λ l. filter p l) (take-append-drop (i + 1) xs)
-    ∙ alone
+    sym (filter-append p (take (i + 1) xs) (drop (i + 1) xs)) ∙ ap (λ l. filter p l) (take-append-drop (i + 1) xs) ∙ alone
     in let more = rw passes at (length-filter_more p xs i d within)
-    in omega (
-      arith,
-      ap length parts,
-      length-append (filter p (take (i + 1) xs)) (filter p (drop (i + 1) xs)),
-      more,
-      ap length one,
-    )
+    in omega (arith, ap length parts, length-append (filter p (take (i + 1) xs)) (filter p (drop (i + 1) xs)), more, ap length one)

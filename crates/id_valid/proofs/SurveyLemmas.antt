@@ -11,14 +11,12 @@ added_twice : (a b c x y : ℕ) → min 2 b ≡ min 2 (a + x) → min 2 c ≡ mi
 added_twice a b c x y one two = omega arith
 
 -- the destinations that pass a test are added where those on each side are
-pub Adds-arcs : (old mid new : List ℕ) (i : Instr) (test : ℕ → Dest → Bool)
-    → Adds old mid (λ k. count_by (test k) (arcs_on true i))
+pub Adds-arcs : (old mid new : List ℕ) (i : Instr) (test : ℕ → Dest → Bool) → Adds old mid (λ k. count_by (test k) (arcs_on true i))
     → Adds mid new (λ k. count_by (test k) (false_arcs i)) → Adds old new (λ k. count_by (test k) (arcs i))
 Adds-arcs old mid new i test one two = record {
   len = two.len ∙ one.len;
   at = λ k within.
       let both = sum_by-append (λ d. cond (test k d) 1 0) (arcs_on true i) (false_arcs i) in
       subst (λ n. min 2 (slice_index new k) ≡ min 2 (slice_index old k + n)) (sym both)
-      (added_twice (slice_index old k) (slice_index mid k) (slice_index new k) _ _ (one.at k within)
-      (two.at k (omega (arith, one.len))));
+      (added_twice (slice_index old k) (slice_index mid k) (slice_index new k) _ _ (one.at k within) (two.at k (omega (arith, one.len))));
 }

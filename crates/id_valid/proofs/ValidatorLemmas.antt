@@ -1,6 +1,5 @@
 -- Lemmas on specs/Validator.antt, in the order of its definitions.
-use Rattle.std.proofs.Common.{◌≡◌, ◌==◌, ℕ, ◌≤◌, ◌<◌, Bool, ◌||◌, cond, true, false, Option, Some, None, length, List}
-use Rattle.std.proofs.Common.{[], ◌∷◌, filter, arith, refl, inl, inr}
+use Rattle.std.proofs.Common.{◌≡◌, ◌==◌, ℕ, ◌≤◌, ◌<◌, Bool, ◌||◌, cond, true, false, Option, Some, None, length, List, [], ◌∷◌, filter, arith, refl, inl, inr}
 use Rattle.std.specs.Option.{option_and_then}
 use Rattle.std.specs.List.{list_any}
 use Rattle.std.proofs.lemmas.Bool.{cases_lt}
@@ -8,8 +7,7 @@ use Rattle.std.proofs.lemmas.Bool.Decides.{nat_tests}
 use Rattle.id_instr.specs.declared.instr.Block.{Block}
 use Rattle.id_instr.specs.declared.instr.PortKind.{PortKind}
 use Rattle.id_instr.specs.declared.instr.Op.{Op}
-use Rattle.id_instr.specs.declared.instr.Op.TheVariants.{Const, Unary, Binary, Merge, Switch, Back, Enter, Send, Next}
-use Rattle.id_instr.specs.declared.instr.Op.TheVariants.{Reset, Alloc, Address, Fetch, Store}
+use Rattle.id_instr.specs.declared.instr.Op.TheVariants.{Const, Unary, Binary, Merge, Switch, Back, Enter, Send, Next, Reset, Alloc, Address, Fetch, Store}
 use Rattle.id_instr.specs.Held.{held_kind}
 use Rattle.id_instr.specs.Graph.{Parts}
 use Rattle.id_valid.specs.Roles.{op_at, back_kind, IsMain}
@@ -44,13 +42,11 @@ later_true true e = refl
 later_true false e = e
 
 -- a block that a filter keeps is one of the blocks
-pub is_first-filter : (p : Block → Bool) (bs : List Block) (b : Block) → filter p bs ≡ b ∷ []
-    → list_any (λ x. x.first == b.first) bs ≡ true
+pub is_first-filter : (p : Block → Bool) (bs : List Block) (b : Block) → filter p bs ≡ b ∷ [] → list_any (λ x. x.first == b.first) bs ≡ true
 is_first-filter p [] b e = cc
 is_first-filter p (x ∷ bs) b e =
     let rest = is_first-filter p bs b
-    in elim (p x) as (λ t. cond t (x ∷ filter p bs) (filter p bs) ≡ b ∷ []
-    → (x.first == b.first || list_any (λ y. y.first == b.first) bs) ≡ true) [
+    in elim (p x) as (λ t. cond t (x ∷ filter p bs) (filter p bs) ≡ b ∷ [] → (x.first == b.first || list_any (λ y. y.first == b.first) bs) ≡ true) [
       | true ↦ λ kept.
           let same : x ≡ b = cc
           in let here : (x.first == b.first) ≡ true = rw same (same_number b.first)
@@ -76,8 +72,7 @@ pub IsEntered-valid : (g : Parts) (n b r : ℕ) → IsValid g → op_at g n ≡ 
 IsEntered-valid g n b r valid here = (valid.sound n).named (Enter b r) here
 
 -- a `send` of a valid graph names an entry of its kind
-pub IsSentTo-valid : (g : Parts) (n : ℕ) (k : PortKind) (t : ℕ) → IsValid g → op_at g n ≡ Some (Send k t)
-    → IsSentTo g k t
+pub IsSentTo-valid : (g : Parts) (n : ℕ) (k : PortKind) (t : ℕ) → IsValid g → op_at g n ≡ Some (Send k t) → IsSentTo g k t
 IsSentTo-valid g n k t valid here = (valid.sound n).named (Send k t) here
 
 -- a `fetch` of a valid graph names a merge for what the cells hold
@@ -86,8 +81,7 @@ pub IsReply-valid : (g : Parts) (n : ℕ) (nested : Bool) (r : ℕ) → IsValid 
 IsReply-valid g n nested r valid here = (valid.sound n).named (Fetch nested r) here
 
 -- where all instructions up to the end are sound, the first faulty one is the first past the end
-pub FirstFaulty-past : (g : Parts) (i : ℕ) (o : Option ℕ) → length g.instrs ≤ i → ((n : ℕ) → n < i → IsSound g n)
-    → FirstPast g o → FirstFaulty g o
+pub FirstFaulty-past : (g : Parts) (i : ℕ) (o : Option ℕ) → length g.instrs ≤ i → ((n : ℕ) → n < i → IsSound g n) → FirstPast g o → FirstFaulty g o
 FirstFaulty-past g i None end below past =
     record { sound = λ n. elim (cases_lt n i) [ inl lt ↦ below n lt | inr ge ↦ past.sound n (omega arith) ] }
 FirstFaulty-past g i (Some f) end below past = record {

@@ -29,8 +29,7 @@ Among-map f x (y ∷ xs) (inl e) = inl (ap f e)
 Among-map f x (y ∷ xs) (inr h) = inr (Among-map f x xs h)
 
 -- what is among the images is the image of one
-pub Among-from_map : {A B : Type 0} (f : A → B) (y : B) (xs : List A) → Among y (map f xs)
-    → (x : A) × Among x xs × (y ≡ f x)
+pub Among-from_map : {A B : Type 0} (f : A → B) (y : B) (xs : List A) → Among y (map f xs) → (x : A) × Among x xs × (y ≡ f x)
 Among-from_map f y [] h = absurd h
 Among-from_map f y (x ∷ xs) (inl e) = (x, inl refl, e)
 Among-from_map f y (x ∷ xs) (inr h) = let r = Among-from_map f y xs h in (r.0, inr r.1, r.2)

@@ -9,8 +9,7 @@ use Rattle.id_value.proofs.AmongLemmas.{Among-either, Among-left, Among-map, Amo
 use Rattle.id_value.proofs.PlacesLemmas.{taken-or-left}
 
 -- two lists where all differ and that have nothing in common
-pub AllDiffer-append : {A : Type 0} (xs ys : List A) → AllDiffer xs → AllDiffer ys
-    → ((x : A) → Among x xs → Among x ys → ⊥) → AllDiffer (xs ++ ys)
+pub AllDiffer-append : {A : Type 0} (xs ys : List A) → AllDiffer xs → AllDiffer ys → ((x : A) → Among x xs → Among x ys → ⊥) → AllDiffer (xs ++ ys)
 AllDiffer-append [] ys hx hy apart = hy
 AllDiffer-append (x ∷ xs) ys hx hy apart = (
   λ h. elim (Among-either x xs ys h) [ inl k ↦ hx.0 k | inr k ↦ apart x (inl refl) k ],
@@ -43,8 +42,7 @@ AllDiffer-from_map f [] d = tt
 AllDiffer-from_map f (x ∷ xs) d = (λ h. d.0 (Among-map f x xs h), AllDiffer-from_map f xs d.1)
 
 -- where all images differ, things with one image are one
-pub same-from_map : {A B : Type 0} (f : A → B) (xs : List A) (x y : A) → AllDiffer (map f xs) → Among x xs → Among y xs
-    → f x ≡ f y → x ≡ y
+pub same-from_map : {A B : Type 0} (f : A → B) (xs : List A) (x y : A) → AllDiffer (map f xs) → Among x xs → Among y xs → f x ≡ f y → x ≡ y
 same-from_map f [] x y d h k e = absurd h
 same-from_map f (z ∷ xs) x y d (inl h) (inl k) e = h ∙ sym k
 same-from_map {B = B} f (z ∷ xs) x y d (inl h) (inr k) e =
@@ -56,13 +54,11 @@ same-from_map {B = B} f (z ∷ xs) x y d (inr h) (inl k) e =
 same-from_map f (z ∷ xs) x y d (inr h) (inr k) e = same-from_map f xs x y d.1 h k e
 
 -- where all differ, there are no more than in a list that has each of them
-pub AllDiffer-few : {A : Type 0} (xs ys : List A) → AllDiffer xs → ((x : A) → Among x xs → Among x ys)
-    → length xs ≤ length ys
+pub AllDiffer-few : {A : Type 0} (xs ys : List A) → AllDiffer xs → ((x : A) → Among x xs → Among x ys) → length xs ≤ length ys
 AllDiffer-few [] ys d each = omega arith
 AllDiffer-few {A = A} (x ∷ xs) ys d each =
     let P : A → Type 0 = λ z. Among z xs in
     let at = at-from_Among x ys (each x (inl refl)) in
     let rest = AllDiffer-few xs (remove ys at.0) d.1
-    (λ y h. elim (taken-or-left y x ys at.0 at.1 (each y (inr h)))
-    [ inl e ↦ absurd (d.0 (subst P e h)) | inr k ↦ k ]) in
+    (λ y h. elim (taken-or-left y x ys at.0 at.1 (each y (inr h))) [ inl e ↦ absurd (d.0 (subst P e h)) | inr k ↦ k ]) in
     omega (arith, rest, length-remove ys at.0 (slice_get_within ys at.0 x at.1))

@@ -34,5 +34,4 @@ calculated-number Add a b = whole-number (a +ℤ b)
 calculated-number Sub a b = whole-number (a -ℤ b)
 calculated-number Mul a b = whole-number (a *ℤ b)
 calculated-number Div a b = unless-zero (whole (int_div a b)) (int_eq b (pos 0)) (whole-number (int_div a b))
-calculated-number Rem a b =
-    unless-zero (remainder a b) (int_eq b (pos 0)) (number-if (int_rem a b) (is_whole (int_div a b)))
+calculated-number Rem a b = unless-zero (remainder a b) (int_eq b (pos 0)) (number-if (int_rem a b) (is_whole (int_div a b)))

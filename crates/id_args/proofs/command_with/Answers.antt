@@ -9,6 +9,5 @@ pub returns : goal.returns
 returns c =
     let start : app_of c.about.result ≡ new_app c.args.name.now = search rules in
     let local : (out-Command c.about.result).has_globals ≡ false = search rules in
-    IfOk-weaker c.args-2.result _ _
-    (λ r added. IsCommand-args c.args.name.now c.about.result c.args.arguments.items r start local added c.requires)
+    IfOk-weaker c.args-2.result _ _ (λ r added. IsCommand-args c.args.name.now c.about.result c.args.arguments.items r start local added c.requires)
     c.args-2.ensures

@@ -8,8 +8,7 @@ pub returns-in_default : goal.returns-in_default
 returns-in_default c =
     let rows = rows_of (found_of c.args.matches.now) in
     let none : c.number_of.result ≡ None = search rules in
-    no_run rows
-    (λ count steps order n s o. subst (IsNumberOf 32 (codes "elements") rows) none c.number_of.ensures count n)
+    no_run rows (λ count steps order n s o. subst (IsNumberOf 32 (codes "elements") rows) none c.number_of.ensures count n)
 
 pub returns-in_default-steps_of : goal.returns-in_default-steps_of
 returns-in_default-steps_of c =

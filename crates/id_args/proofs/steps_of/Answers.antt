@@ -5,7 +5,5 @@ use Rattle.id_args.proofs.MatchesLemmas.{IsNumberOf-read}
 use Rattle.id_args.proofs.steps_of.Goals as goal
 
 pub returns : goal.returns
-returns c =
-    IsNumberOf-read 64 (λ bs r. ParsesUnsigned 64 10 bs r × ExplainsUnsignedError 10 bs r × HasUnsignedDigitsIfOk bs r)
-    (found_of c.args.matches.now) (codes "steps") c.get_one.result c.get_one.ensures.none c.get_one.ensures.value
-    (λ t r h. h.0)
+returns c = IsNumberOf-read 64 (λ bs r. ParsesUnsigned 64 10 bs r × ExplainsUnsignedError 10 bs r × HasUnsignedDigitsIfOk bs r)
+    (found_of c.args.matches.now) (codes "steps") c.get_one.result c.get_one.ensures.none c.get_one.ensures.value (λ t r h. h.0)

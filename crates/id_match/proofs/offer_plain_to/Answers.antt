@@ -30,8 +30,7 @@ returns-in-Partner-clause-answer c =
     ∙ answer-lookup c.args.rear.now (tag_in c.args.token.now) c.args.token.now.port (whole c.args.token.now.value))
 
 pub returns-in-Partner-clause-at : goal.returns-in-Partner-clause-at
-returns-in-Partner-clause-at c =
-    rw c.in-Partner.is (here_after _ _ _ _ _ (rw c.in-Partner.is at c.in_ok-met.ensures.after))
+returns-in-Partner-clause-at c = rw c.in-Partner.is (here_after _ _ _ _ _ (rw c.in-Partner.is at c.in_ok-met.ensures.after))
 
 pub returns-in-Partner-clause-others : goal.returns-in-Partner-clause-others
 returns-in-Partner-clause-others c = others_after _ _ _ _ _ (rw c.in-Partner.is at c.in_ok-met.ensures.after)
@@ -40,11 +39,8 @@ pub returns-in-Partner-clause-marked : goal.returns-in-Partner-clause-marked
 returns-in-Partner-clause-marked c = λ marked.
     let port = c.args.token.now.port in
     let v = whole c.args.token.now.value in
-    let left =
-    partner_left_of (lookup (same_tag (tag_in c.args.token.now)) (entries c.args.rear.now)) port v
-    (whole c.in-Partner.field-0)
-    ((rw c.in-Partner.is at c.in_ok-met.ensures.answer)
-    ∙ answer-lookup c.args.rear.now (tag_in c.args.token.now) port v) in
+    let left = partner_left_of (lookup (same_tag (tag_in c.args.token.now)) (entries c.args.rear.now)) port v (whole c.in-Partner.field-0)
+    ((rw c.in-Partner.is at c.in_ok-met.ensures.answer) ∙ answer-lookup c.args.rear.now (tag_in c.args.token.now) port v) in
     c.leave_behind.ensures.marked _ _ marked
     (λ u apart. returns-in-Partner-clause-others c u (subst (λ w. same_tag w u ≡ false) c.tag-in-Partner.ensures apart))
     (subst (λ w. IsSome (lookup (same_tag w) (entries c.args.rear.now))) (sym c.tag-in-Partner.ensures) left.0)

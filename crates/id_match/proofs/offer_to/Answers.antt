@@ -17,8 +17,7 @@ returns-in_err-answer-clause-grows c =
 
 -- the value is kept
 pub returns-in-Kept-clause-answer : goal.returns-in-Kept-clause-answer
-returns-in-Kept-clause-answer c =
-    c.in_ok-answer.ensures.answer ∙ answer-lookup c.args.rear.now c.args.tag c.args.port c.args.value
+returns-in-Kept-clause-answer c = c.in_ok-answer.ensures.answer ∙ answer-lookup c.args.rear.now c.args.tag c.args.port c.args.value
 
 pub returns-in-Kept-clause-at : goal.returns-in-Kept-clause-at
 returns-in-Kept-clause-at c = here_after _ _ _ _ _ c.in_ok-answer.ensures.after
@@ -27,13 +26,11 @@ pub returns-in-Kept-clause-others : goal.returns-in-Kept-clause-others
 returns-in-Kept-clause-others c = others_after _ _ _ _ _ c.in_ok-answer.ensures.after
 
 pub returns-in-Kept-clause-marked : goal.returns-in-Kept-clause-marked
-returns-in-Kept-clause-marked c =
-    λ marked. c.step_behind.ensures.marked _ _ marked (others_after _ _ _ _ _ c.in_ok-answer.ensures.after)
+returns-in-Kept-clause-marked c = λ marked. c.step_behind.ensures.marked _ _ marked (others_after _ _ _ _ _ c.in_ok-answer.ensures.after)
 
 -- the partner leaves
 pub returns-in-Pair-clause-answer : goal.returns-in-Pair-clause-answer
-returns-in-Pair-clause-answer c =
-    c.in_ok-answer.ensures.answer ∙ answer-lookup c.args.rear.now c.args.tag c.args.port c.args.value
+returns-in-Pair-clause-answer c = c.in_ok-answer.ensures.answer ∙ answer-lookup c.args.rear.now c.args.tag c.args.port c.args.value
 
 pub returns-in-Pair-clause-at : goal.returns-in-Pair-clause-at
 returns-in-Pair-clause-at c = here_after _ _ _ _ _ c.in_ok-answer.ensures.after
@@ -43,18 +40,14 @@ returns-in-Pair-clause-others c = others_after _ _ _ _ _ c.in_ok-answer.ensures.
 
 pub returns-in-Pair-clause-marked : goal.returns-in-Pair-clause-marked
 returns-in-Pair-clause-marked c = λ marked.
-    let left =
-    partner_left (lookup (same_tag c.args.tag) (entries c.args.rear.now)) c.args.port c.args.value c.in-Pair.field-0
-    c.in-Pair.field-1
-    (sym c.in-Pair.is ∙ c.in_ok-answer.ensures.answer
-    ∙ answer-lookup c.args.rear.now c.args.tag c.args.port c.args.value) in
+    let left = partner_left (lookup (same_tag c.args.tag) (entries c.args.rear.now)) c.args.port c.args.value c.in-Pair.field-0 c.in-Pair.field-1
+    (sym c.in-Pair.is ∙ c.in_ok-answer.ensures.answer ∙ answer-lookup c.args.rear.now c.args.tag c.args.port c.args.value) in
     c.leave_behind.ensures.marked _ _ marked (others_after _ _ _ _ _ c.in_ok-answer.ensures.after) left.0
     (here_after _ _ _ _ _ c.in_ok-answer.ensures.after ∙ left.1)
 
 -- the port is taken
 pub returns-in-Taken-clause-answer : goal.returns-in-Taken-clause-answer
-returns-in-Taken-clause-answer c =
-    c.in_ok-answer.ensures.answer ∙ answer-lookup c.args.rear.now c.args.tag c.args.port c.args.value
+returns-in-Taken-clause-answer c = c.in_ok-answer.ensures.answer ∙ answer-lookup c.args.rear.now c.args.tag c.args.port c.args.value
 
 pub returns-in-Taken-clause-at : goal.returns-in-Taken-clause-at
 returns-in-Taken-clause-at c = here_after _ _ _ _ _ c.in_ok-answer.ensures.after

@@ -9,8 +9,7 @@ use Rattle.id_match.proofs.put_token_before.Goals as goal
 
 pub returns-then-has_room-clause-apart : goal.returns-then-has_room-clause-apart
 returns-then-has_room-clause-apart c = λ marked put.
-    subst (λ t. lookup (same_tag t) (entries c.args.rear.now) ≡ None) c.slot_in.ensures.tag
-    (c.put_before.ensures.apart marked put)
+    subst (λ t. lookup (same_tag t) (entries c.args.rear.now) ≡ None) c.slot_in.ensures.tag (c.put_before.ensures.apart marked put)
 
 pub returns-then-has_room-clause-free : goal.returns-then-has_room-clause-free
 returns-then-has_room-clause-free c = λ put.
@@ -20,6 +19,5 @@ pub returns-then-has_room-clause-put : goal.returns-then-has_room-clause-put
 returns-then-has_room-clause-put c = λ put.
     let f = c.args.front.now.items in
     let m = c.put_before.new.front.items in
-    subst (λ t. Puts f m t (Some (record { port = c.args.token.now.port; value = whole c.args.token.now.value })))
-    c.slot_in.ensures.tag
+    subst (λ t. Puts f m t (Some (record { port = c.args.token.now.port; value = whole c.args.token.now.value }))) c.slot_in.ensures.tag
     (subst (Puts f m (slot_tag c.slot_in.result)) c.slot_in.ensures.half (c.put_before.ensures.put put))

@@ -8,8 +8,7 @@ use Rattle.id_match.proofs.put_value_before.Goals as goal
 
 pub returns-in-Some-clause-apart : goal.returns-in-Some-clause-apart
 returns-in-Some-clause-apart c = λ marked put.
-    subst (λ t. lookup (same_tag t) (entries c.args.rear.now) ≡ None) c.in-Some.ensures.0
-    (c.put_before.ensures.apart marked put)
+    subst (λ t. lookup (same_tag t) (entries c.args.rear.now) ≡ None) c.in-Some.ensures.0 (c.put_before.ensures.apart marked put)
 
 pub returns-in-Some-clause-free : goal.returns-in-Some-clause-free
 returns-in-Some-clause-free c = λ put.

@@ -10,9 +10,7 @@ invariant-loop-self l = record {
   left : l.self-inside.left ≤ 8;
   fits : All (λ e. IsPage e.0) l.self-inside.pages.items;
   count : l.self-inside.count ≡ length l.fn.self;
-  same : flat_map filled_at
-      (cells_left l.self-inside.left (map (λ e. (e.0, e.1.now)) (drop l.self-inside.page l.self-inside.pages.items)))
-      ≡ l.fn.self;
+  same : flat_map filled_at (cells_left l.self-inside.left (map (λ e. (e.0, e.1.now)) (drop l.self-inside.page l.self-inside.pages.items))) ≡ l.fn.self;
 }
 
 abbrev pub decreases-loop-self : goal.decreases-loop-self

@@ -10,7 +10,6 @@ returns c = (
   search rules,
   tree-block c.args.place c.in_ok-inside.inside
       ∙ ap (λ b. block (onto b.statements.items none) (tree_of b.body) c.args.place) c.in_ok-inside.ensures.ok
-      ∙ ap (λ ss. block (onto ss none) (tree_of c.into_expr-body.result) c.args.place) (c.fitted-statements.ensures
-      ∙ ap (λ v. v.items) c.into_list.ensures)
+      ∙ ap (λ ss. block (onto ss none) (tree_of c.into_expr-body.result) c.args.place) (c.fitted-statements.ensures ∙ ap (λ v. v.items) c.into_list.ensures)
       ∙ ap (λ e. block (onto c.args.statements.list.items none) (tree_of e) c.args.place) c.into_expr-body.ensures,
 )

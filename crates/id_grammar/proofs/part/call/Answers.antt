@@ -10,6 +10,5 @@ returns c = (
   search rules,
   tree-call c.args.place c.in_ok-inside.inside
       ∙ ap (λ b. call b.name (passed b.args.items none) c.args.place) c.in_ok-inside.ensures.ok
-      ∙ ap (λ es. call c.args.name (passed es none) c.args.place) (c.fitted-args.ensures
-      ∙ ap (λ v. v.items) c.into_list.ensures),
+      ∙ ap (λ es. call c.args.name (passed es none) c.args.place) (c.fitted-args.ensures ∙ ap (λ v. v.items) c.into_list.ensures),
 )

@@ -12,11 +12,9 @@ returns c =
     let f = c.into_for.ensures in (
       search rules,
       tree-for p c.in_ok-inside.inside
-          ∙ ap (λ b. for_loop b.name b.index (tree_of b.low) (tree_of b.high) (onto b.statements.items none)
-          (tree_of b.last) p) c.in_ok-inside.ensures.ok ∙ rw (f.name, f.index, f.low, f.high, f.statements, f.last)
-          (ap (λ ss. for_loop i.name i.place (tree_of i.low) (tree_of i.high) (onto ss none)
-          (tree_of c.into_expr-last.result) p)
+          ∙ ap (λ b. for_loop b.name b.index (tree_of b.low) (tree_of b.high) (onto b.statements.items none) (tree_of b.last) p) c.in_ok-inside.ensures.ok
+          ∙ rw (f.name, f.index, f.low, f.high, f.statements, f.last)
+          (ap (λ ss. for_loop i.name i.place (tree_of i.low) (tree_of i.high) (onto ss none) (tree_of c.into_expr-last.result) p)
           (c.fitted-statements.ensures ∙ ap (λ v. v.items) c.into_list.ensures)
-          ∙ ap (λ e. for_loop i.name i.place (tree_of i.low) (tree_of i.high) (onto c.args.statements.list.items none)
-          (tree_of e) p) c.into_expr-last.ensures),
+          ∙ ap (λ e. for_loop i.name i.place (tree_of i.low) (tree_of i.high) (onto c.args.statements.list.items none) (tree_of e) p) c.into_expr-last.ensures),
     )

@@ -9,6 +9,5 @@ returns c =
     let a = c.args in
     let wrote = rw c.port_number.ensures at c.writeln.ensures.bytes in
     subst (λ (b : List ℕ). OnOk c.writeln.result (string_bytes c.writeln.new.self ≡ string_bytes a.out.now ++ b))
-    (ten_joined (decimal a.number) a.field.now (codes " -> ") (decimal a.dest.instr) (codes ":")
-    (decimal (port_number a.dest.port)) (codes " [style=")
+    (ten_joined (decimal a.number) a.field.now (codes " -> ") (decimal a.dest.instr) (codes ":") (decimal (port_number a.dest.port)) (codes " [style=")
     a.style.now a.looks.now (codes "];\n")) wrote

@@ -9,6 +9,5 @@ pub returns : goal.returns
 returns c =
     let a = c.args in
     on_ok_weaker c.put.result
-    (three_and_two _ _ _ _ (codes "}\nsubgraph cluster_") (decimal a.number) (codes " {\nlabel=\"")
-    (frame_text a.lines.now a.place) (codes "\";\n")
+    (three_and_two _ _ _ _ (codes "}\nsubgraph cluster_") (decimal a.number) (codes " {\nlabel=\"") (frame_text a.lines.now a.place) (codes "\";\n")
     c.in_ok-write.ensures.bytes c.in_ok-write_frame.ensures) c.put.ensures

@@ -13,9 +13,6 @@ returns c =
     let n = c.args.number in
     let i = c.args.instr.now in
     on_ok_weaker c.writeln.result
-    (node_joined _ _ _ _ _ _ (decimal n) (codes " [label=\"")
-    (shape_text text n i) (codes ", tooltip=\"") (head_text text n i) (codes "\"")
-    (look i.op)
-    (codes "];\n") c.in_ok-write.ensures.bytes c.in_ok-write_shape.ensures c.in_ok-put.ensures
-    c.in_ok-write_head.ensures)
+    (node_joined _ _ _ _ _ _ (decimal n) (codes " [label=\"") (shape_text text n i) (codes ", tooltip=\"") (head_text text n i) (codes "\"") (look i.op)
+    (codes "];\n") c.in_ok-write.ensures.bytes c.in_ok-write_shape.ensures c.in_ok-put.ensures c.in_ok-write_head.ensures)
     (rw c.look.ensures at c.writeln.ensures.bytes)

@@ -21,15 +21,13 @@ loop-number-preserved c =
     let i = c.instr-item.result in
     let below = rw c.instrs-instr-items.ensures.value at c.loop-number-test.true in
     let start = rw (c.requires.begun.at k false below) at c.in_ok-write_start.ensures in
-    walk_on (nodes_text t bs) (λ n i. start_text t (is_begun bs n) n i.place ++ node_text t n i) (λ n i is. refl) k
-    c.instrs-instr-items.result.now i
+    walk_on (nodes_text t bs) (λ n i. start_text t (is_begun bs n) n i.place ++ node_text t n i) (λ n i is. refl) k c.instrs-instr-items.result.now i
     _ _ _ c.loop-number-test.true c.instr-item.is c.loop-number.invariant
     (two_by_one _ _ _ (start_text t (is_begun bs k) k i.place) (node_text t k i) start c.in_ok-write_node.ensures)
 
 pub returns : goal.returns
 returns c =
     let whole =
-    walk_done (nodes_text c.args.lines.now c.args.graph.now.blocks) (λ n. refl) c.loop-number.number
-    c.instrs-instr-items.result.now _ _ c.loop-number-test.false
+    walk_done (nodes_text c.args.lines.now c.args.graph.now.blocks) (λ n. refl) c.loop-number.number c.instrs-instr-items.result.now _ _ c.loop-number-test.false
     c.loop-number.invariant
     in rw c.instrs-instr-items.ensures.value at whole

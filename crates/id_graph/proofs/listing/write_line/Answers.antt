@@ -9,6 +9,5 @@ pub returns : goal.returns
 returns c =
     let i = c.args.instr.now in
     on_ok_weaker c.write_arcs.result
-    (one_and_four _ _ _ (head_text c.args.lines.now c.args.number i) (codes " ->") (dests_text (arcs_on true i))
-    (false_text i) (codes "\n")
+    (one_and_four _ _ _ (head_text c.args.lines.now c.args.number i) (codes " ->") (dests_text (arcs_on true i)) (false_text i) (codes "\n")
     c.in_ok-write_head.ensures) c.write_arcs.ensures

@@ -24,11 +24,8 @@ write_line-requires c =
 pub loop-number-preserved : goal.loop-number-preserved
 loop-number-preserved c =
     let text = c.args.lines.now in
-    walk_on (lines_text text) (line_text text) (λ n i is. refl) c.loop-number.number c.args.instrs.now
-    c.index-instrs-number.result _ _ _
+    walk_on (lines_text text) (line_text text) (λ n i is. refl) c.loop-number.number c.args.instrs.now c.index-instrs-number.result _ _ _
     c.loop-number-test.true c.index-instrs-number.is c.loop-number.invariant c.in_ok-write_line.ensures
 
 pub returns : goal.returns
-returns c =
-    walk_done (lines_text c.args.lines.now) (λ n. refl) c.loop-number.number c.args.instrs.now _ _
-    c.loop-number-test.false c.loop-number.invariant
+returns c = walk_done (lines_text c.args.lines.now) (λ n. refl) c.loop-number.number c.args.instrs.now _ _ c.loop-number-test.false c.loop-number.invariant

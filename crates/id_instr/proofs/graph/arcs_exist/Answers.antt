@@ -10,10 +10,8 @@ returns-then-are_ports c =
     let P : Dest → Type 0 = λ d. IsPort c.args.instrs.now d in
     let L : List Dest → Type 0 = λ ds. All P ds in
     let firsts = subst L c.as_slice.ensures (c.are_ports.ensures.0 c.if-are_ports.true) in (
-      λ yes. All-arcs P c.args.instr.now firsts
-          (subst L c.false_arcs.ensures (c.are_ports-then-are_ports.ensures.0 yes)),
-      λ all. c.are_ports-then-are_ports.ensures.1
-          (subst L (sym c.false_arcs.ensures) (All-false_arcs P c.args.instr.now all)),
+      λ yes. All-arcs P c.args.instr.now firsts (subst L c.false_arcs.ensures (c.are_ports-then-are_ports.ensures.0 yes)),
+      λ all. c.are_ports-then-are_ports.ensures.1 (subst L (sym c.false_arcs.ensures) (All-false_arcs P c.args.instr.now all)),
     )
 
 pub returns-else-are_ports : goal.returns-else-are_ports

@@ -13,11 +13,9 @@ use Rattle.id_match.proofs.Waiting.entries.Goals as goal
 pub returns : goal.returns
 returns c =
     let front : c.deref.result.now ≡ c.self.inside.front.items = grind (arith, common_steps) in
-    let all : c.append.new.self.items
-    ≡ map entry_at (all_entries c.self.inside.front.items (entries c.self.inside.rear)) =
+    let all : c.append.new.self.items ≡ map entry_at (all_entries c.self.inside.front.items (entries c.self.inside.rear)) =
     c.in_ok-append.ensures.items
-    ∙ ap (λ l. l ++ c.in_ok-entries-2.field-0.items) (c.in_ok-entries.ensures
-    ∙ ap (λ f. map entry_at (front_entries f)) front)
+    ∙ ap (λ l. l ++ c.in_ok-entries-2.field-0.items) (c.in_ok-entries.ensures ∙ ap (λ f. map entry_at (front_entries f)) front)
     ∙ ap (λ l. map entry_at (front_entries c.self.inside.front.items) ++ l) c.in_ok-entries-2.ensures.items
     ∙ sym (map-append entry_at (front_entries c.self.inside.front.items) (entries c.self.inside.rear)) in
     let listed : c.sort_by_tag.new.entries.items ≡ entries_of c.args.self.now =

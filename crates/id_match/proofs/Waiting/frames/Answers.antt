@@ -16,8 +16,7 @@ use Rattle.id_match.proofs.Waiting.frames.Goals as goal
 pub firsts_behind-requires : goal.firsts_behind-requires
 firsts_behind-requires c =
     let counted = c.rear.invariant.1 ∙ len-from_entries (rear_entries c.rear.inside.keys.entries c.rear.inside.frames)
-    (distinct_rear c.rear.inside.frames c.rear.inside.keys.entries c.rear.invariant.0.unique
-    c.rear.invariant.0.single) in
+    (distinct_rear c.rear.inside.frames c.rear.inside.keys.entries c.rear.invariant.0.unique c.rear.invariant.0.single) in
     omega (arith, counted, c.rear.invariant.2)
 
 pub returns : goal.returns
@@ -27,9 +26,7 @@ returns c =
     record {
       frames = ap (λ n. n + c.firsts_behind.result) (c.firsts_in_front.ensures.exact ∙ ap firsts front)
           ∙ ap (λ n. firsts c.self.inside.front.items + n) c.firsts_behind.ensures.exact
-          ∙ frames_of-rear c.self.inside.front.items (rear_entries c.rear.inside.keys.entries c.rear.inside.frames)
-          c.self.inside.rear
+          ∙ frames_of-rear c.self.inside.front.items (rear_entries c.rear.inside.keys.entries c.rear.inside.frames) c.self.inside.rear
           c.args.self.now c.rear.view_is c.self.view_is c.self.invariant
-          (distinct_rear c.rear.inside.frames c.rear.inside.keys.entries c.rear.invariant.0.unique
-          c.rear.invariant.0.single);
+          (distinct_rear c.rear.inside.frames c.rear.inside.keys.entries c.rear.invariant.0.unique c.rear.invariant.0.single);
     }

@@ -11,13 +11,11 @@ use Rattle.id_match.proofs.Waiting.grow.Goals as goal
 pub invariant_of-self : goal.invariant_of-self
 invariant_of-self c =
     let same : c.deref-then-count-len.result.now ≡ c.self.inside.front.items = grind (arith, common_steps) in
-    moved_kept c.self.inside.front.items c.in-Some.front.items (entries c.self.inside.rear) _ c.self.view_is
-    c.self.invariant c.in-Some.ensures.placed
+    moved_kept c.self.inside.front.items c.in-Some.front.items (entries c.self.inside.rear) _ c.self.view_is c.self.invariant c.in-Some.ensures.placed
     (λ t. c.in-Some.ensures.same t ∙ ap (λ l. lookup (same_tag t) (front_entries l)) same) c.in-Some.ensures.marked
 
 pub returns-in-Some : goal.returns-in-Some
 returns-in-Some c =
     let same : c.deref-then-count-len.result.now ≡ c.self.inside.front.items = grind (arith, common_steps) in
-    moved_same c.self.inside.front.items c.in-Some.front.items (entries c.self.inside.rear) _ c.self.view_is
-    c.self.invariant c.in-Some.ensures.placed
+    moved_same c.self.inside.front.items c.in-Some.front.items (entries c.self.inside.rear) _ c.self.view_is c.self.invariant c.in-Some.ensures.placed
     (λ t. c.in-Some.ensures.same t ∙ ap (λ l. lookup (same_tag t) (front_entries l)) same)

@@ -10,14 +10,12 @@ pub returns-then-has : goal.returns-then-has
 returns-then-has c =
     let front : c.deref.result.now ≡ c.self.inside.front.items = grind (arith, common_steps) in
     c.if-has.true
-    ∙ sym (in_front c.self.inside.front.items (entries c.self.inside.rear) c.args.self.now c.self.view_is
-    c.self.invariant c.args.tag
+    ∙ sym (in_front c.self.inside.front.items (entries c.self.inside.rear) c.args.self.now c.self.view_is c.self.invariant c.args.tag
     (ap (λ f. is_some (front_half f c.args.tag)) (sym front) ∙ sym c.has.ensures ∙ c.if-has.true))
 
 pub returns-else-has : goal.returns-else-has
 returns-else-has c =
     let front : c.deref.result.now ≡ c.self.inside.front.items = grind (arith, common_steps) in
     c.has-else-has.ensures
-    ∙ sym (not_in_front c.self.inside.front.items (entries c.self.inside.rear) c.args.self.now c.self.view_is
-    c.self.invariant c.args.tag
+    ∙ sym (not_in_front c.self.inside.front.items (entries c.self.inside.rear) c.args.self.now c.self.view_is c.self.invariant c.args.tag
     (ap (λ f. is_some (front_half f c.args.tag)) (sym front) ∙ sym c.has.ensures ∙ c.if-has.false))

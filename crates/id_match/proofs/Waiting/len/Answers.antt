@@ -12,10 +12,8 @@ use Rattle.id_match.proofs.Waiting.len.Goals as goal
 pub returns : goal.returns
 returns c =
     let front : c.deref.result.now ≡ c.self.inside.front.items = grind (arith, common_steps) in
-    let first : c.count.result ≡ length (front_entries c.self.inside.front.items) =
-    c.count.ensures.exact ∙ ap (λ f. length (front_entries f)) front in
-    let sum : c.count.result + c.len.result
-    ≡ length (all_entries c.self.inside.front.items (entries c.self.inside.rear)) =
+    let first : c.count.result ≡ length (front_entries c.self.inside.front.items) = c.count.ensures.exact ∙ ap (λ f. length (front_entries f)) front in
+    let sum : c.count.result + c.len.result ≡ length (all_entries c.self.inside.front.items (entries c.self.inside.rear)) =
     omega (
       arith,
       length-append (front_entries c.self.inside.front.items) (entries c.self.inside.rear),
@@ -23,8 +21,6 @@ returns c =
       c.len.ensures.listed,
       length-map (entries c.self.inside.rear) entry_at,
     ) in
-    let counted =
-    sum ∙ sym (len-from_entries _ (distinct_all c.self.inside.front.items (entries c.self.inside.rear) c.self.invariant
-    (distinct_from_is_sorted (entries c.self.inside.rear) (entries_sorted c.self.inside.rear))))
-    ∙ ap len c.self.view_is in
+    let counted = sum ∙ sym (len-from_entries _ (distinct_all c.self.inside.front.items (entries c.self.inside.rear) c.self.invariant
+    (distinct_from_is_sorted (entries c.self.inside.rear) (entries_sorted c.self.inside.rear)))) ∙ ap len c.self.view_is in
     record { len = counted; listed = counted ∙ sym (length-entries_of c.args.self.now) }

@@ -9,8 +9,7 @@ use Rattle.id_match.proofs.Waiting.new.Goals as goal
 
 pub returns-clause-empty : goal.returns-clause-empty
 returns-clause-empty c =
-    ap (λ f. from_entries (all_entries f (entries c.new-2.result))) c.new.ensures.items ∙ made_back c.new-2.result
-    ∙ c.new-2.ensures.empty
+    ap (λ f. from_entries (all_entries f (entries c.new-2.result))) c.new.ensures.items ∙ made_back c.new-2.result ∙ c.new-2.ensures.empty
 
 pub returns-clause-keyed : goal.returns-clause-keyed
 returns-clause-keyed c = λ t p. ap (λ s. waits s t p) (returns-clause-empty c) ∙ waits-empty t p

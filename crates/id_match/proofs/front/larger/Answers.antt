@@ -13,7 +13,6 @@ loop-i-init c = record {
 pub loop-i-preserved : goal.loop-i-preserved
 loop-i-preserved c = record {
   placed = c.if-not-put_moved-2.ensures.placed refl (c.if-not-put_moved.ensures.placed refl c.loop-i.invariant.placed);
-  same = both_moved c.args.front.now c.loop-i.i _ c.loop-i-test.true c.loop-i.more.items c.put_moved.new.front.items _
-      c.loop-i.invariant.same
+  same = both_moved c.args.front.now c.loop-i.i _ c.loop-i-test.true c.loop-i.more.items c.put_moved.new.front.items _ c.loop-i.invariant.same
       (c.if-not-put_moved.ensures.under refl) (c.if-not-put_moved-2.ensures.under refl);
 }

@@ -15,11 +15,9 @@ returns-clause-marked c = λ es fs marked others was gone.
     let at : get_or f c.place_of-at.result empty_pair ≡ c.index.result.now = grind (arith, common_steps) in
     let told : mark_at f c.args.tag ≡ c.index.result.now.first.behind =
     ap (λ k. (get_or f k empty_pair).first.behind) (sym there) ∙ ap (λ p. p.first.behind) at in
-    let x : Pair =
-    record c.index_mut.result.now { first = record c.index_mut.result.now.first { behind = c.less.result } } in
+    let x : Pair = record c.index_mut.result.now { first = record c.index_mut.result.now.first { behind = c.less.result } } in
     subst (λ k. IsMarked (set f k x) fs) (sym there)
-    (marked_less f c.args.tag some (place_below c.args.tag _ some) x es fs marked others (c.less.ensures
-    ∙ ap one_less (sym told)) was gone)
+    (marked_less f c.args.tag some (place_below c.args.tag _ some) x es fs marked others (c.less.ensures ∙ ap one_less (sym told)) was gone)
 
 -- and holds what it held
 pub returns-clause-holds : goal.returns-clause-holds
@@ -27,6 +25,5 @@ returns-clause-holds c =
     let f = c.args.front.now.items in
     let at : get_or f c.place_of-at.result empty_pair ≡ c.index_mut.result.now = grind (arith, common_steps) in
     let below : c.place_of-at.result < length f = grind (arith, common_steps) in
-    let x : Pair =
-    record c.index_mut.result.now { first = record c.index_mut.result.now.first { behind = c.less.result } } in
+    let x : Pair = record c.index_mut.result.now { first = record c.index_mut.result.now.first { behind = c.less.result } } in
     holds_set f c.place_of-at.result x (λ u. ap (λ p. pair_half p u) (sym at)) (subst IsSingle at) below

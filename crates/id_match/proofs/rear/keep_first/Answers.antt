@@ -16,15 +16,12 @@ returns-in-Ok-insert c short =
       frame = c.in-Ok.frame;
       only = c.in-Ok.ensures.only;
       updates = updates_reserved old mid slab mid.capacity key _ c.new_frame.ensures.same
-          (subst (λ k. Updates mid slab k (Some c.in-Ok.frame)) (c.insert_reserved.ensures.key
-          ∙ sym c.vacant_key.ensures.value)
+          (subst (λ k. Updates mid slab k (Some c.in-Ok.frame)) (c.insert_reserved.ensures.key ∙ sym c.vacant_key.ensures.value)
           c.insert_reserved.ensures.updates);
     } in
     record {
-      holds = made_in c.args.keys.now.entries old c.requires.framed c.args.tag c.args.name c.requires.own _ slab key
-          c.args.half c.requires.absent
+      holds = made_in c.args.keys.now.entries old c.requires.framed c.args.tag c.args.name c.requires.own _ slab key c.args.half c.requires.absent
           c.in-Ok-insert.ensures.updates.0 c.in-Ok-insert.ensures.unique makes;
       tells = tells_kept c.args.half short c.args.room _
-          (none_in c.args.keys.now.entries old c.requires.framed c.args.tag c.args.name c.requires.own
-          c.requires.absent) c.in-Ok.ensures.room;
+          (none_in c.args.keys.now.entries old c.requires.framed c.args.tag c.args.name c.requires.own c.requires.absent) c.in-Ok.ensures.room;
     }

@@ -6,5 +6,4 @@ use Rattle.id_match.proofs.rear.listed.Given as goal
 -- what is listed and what comes is all
 abbrev pub invariant-loop-name : goal.invariant-loop-name
 invariant-loop-name l =
-    l.entries.items ++ map entry_at (rear_entries l.name-iterator l.frames)
-    ≡ map entry_at (rear_entries l.keys.entries l.frames)
+    l.entries.items ++ map entry_at (rear_entries l.name-iterator l.frames) ≡ map entry_at (rear_entries l.keys.entries l.frames)

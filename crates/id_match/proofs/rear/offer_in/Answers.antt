@@ -13,9 +13,7 @@ returns-clause-tells c =
 pub returns-clause-writes : goal.returns-clause-writes
 returns-clause-writes c = record {
   frame = c.offer.new.self;
-  sets = subst
-      (λ l. Sets l c.offer.new.self.halves.items c.args.instr
-      (after_came c.offer.result c.args.half (lookup (nat_eq c.args.instr) l)))
+  sets = subst (λ l. Sets l c.offer.new.self.halves.items c.args.instr (after_came c.offer.result c.args.half (lookup (nat_eq c.args.instr) l)))
       (sym (ap halves_in c.index_mut.ensures.value)) c.offer.ensures.sets;
   updates = Updates-with_value c.args.frames.now c.args.key c.offer.new.self c.requires;
 }

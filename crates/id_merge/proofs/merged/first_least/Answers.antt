@@ -18,14 +18,12 @@ loop-i-preserved g c =
     let r = rank (drop x.from x.bytes.items) in
     let here : drop i ranks ≡ r ∷ drop (i + 1) ranks =
     drop_at ranks i r (slice_get-map rank (map (λ h. drop h.from h.bytes.items) heads) i
-    ∙ ap (option_map rank) (slice_get-map (λ h. drop h.from h.bytes.items) heads i
-    ∙ ap (option_map (λ h. drop h.from h.bytes.items)) at)) in
+    ∙ ap (option_map rank) (slice_get-map (λ h. drop h.from h.bytes.items) heads i ∙ ap (option_map (λ h. drop h.from h.bytes.items)) at)) in
     let before = sym (ap (least_from i c.loop-i.place c.loop-i.least) here) ∙ c.loop-i.invariant in
     elim c.if-rank-least.branch [
       | then-rank-least w ↦
           least_then i c.loop-i.place c.loop-i.least r c.if-rank-least.place c.if-rank-least.least (drop (i + 1) ranks)
-          (omega (arith, w.if-rank-least.true, c.rank-rank.ensures)) w.place-is (w.least-is ∙ c.rank-rank.ensures)
-          ∙ before
+          (omega (arith, w.if-rank-least.true, c.rank-rank.ensures)) w.place-is (w.least-is ∙ c.rank-rank.ensures) ∙ before
       | else-rank-least w ↦
           least_else i c.loop-i.place c.loop-i.least r c.if-rank-least.place c.if-rank-least.least (drop (i + 1) ranks)
           (omega (arith, w.if-rank-least.false, c.rank-rank.ensures)) w.place-is w.least-is ∙ before

@@ -6,12 +6,9 @@ use Rattle.id_grammar.specs.Tree.{tree_of, stmt_tree}
 use Rattle.id_table.specs.declared.row.Node.TheVariants.{Body}
 use Rattle.id_table.specs.Rows.{add, add_arguments, add_nexts, begin_for, begin_loop, with_row}
 use Rattle.id_table.specs.Making.{add_body, add_counting, exprs_tree, parts, stmts_tree}
-use Rattle.id_table.proofs.MakingLemmas.{added_as, done_as, unary_row, pair_row, conditional_row, call_row}
-use Rattle.id_table.proofs.MakingLemmas.{argument_row, block_row, binding_row, store_row}
-use Rattle.id_table.proofs.MakingLemmas.{next_row, body_row, counting_row, loop_row, for_row, statement_step}
-use Rattle.id_table.proofs.MakingLemmas.{other_step, next_step}
-use Rattle.id_table.proofs.MakingLemmas.{call_tree, block_tree, loop_tree, counted_tree, unary_tree, binary_tree}
-use Rattle.id_table.proofs.MakingLemmas.{array_tree, fetch_tree, conditional_tree, store_tree}
+use Rattle.id_table.proofs.MakingLemmas.{added_as, done_as, unary_row, pair_row, conditional_row, call_row, argument_row, block_row, binding_row, store_row}
+use Rattle.id_table.proofs.MakingLemmas.{next_row, body_row, counting_row, loop_row, for_row, statement_step, other_step, next_step}
+use Rattle.id_table.proofs.MakingLemmas.{call_tree, block_tree, loop_tree, counted_tree, unary_tree, binary_tree, array_tree, fetch_tree, conditional_tree, store_tree}
 use Rattle.id_table.proofs.walk.+add.Goals.{add_loop_statements-in-Next+in_ok-add_next-in-Next}
 use Rattle.id_table.proofs.walk.+add.Goals.{add_loop_statements-in_default+in_ok-add_statement-in_default}
 use Rattle.id_table.proofs.walk.+add.Goals as goal
@@ -21,8 +18,7 @@ add_expr-returns-in-Unary t c =
     let a = c.in-Unary in
     let d = c.deref in
     added_as c.add_unary.result (parts c.add_unary.new.maker) _ _
-    (ap (add c.args.stand (parts c.args.maker.now))
-    (unary_tree c.args.expr.now a.op a.place a.operand d.result.now d.ensures a.is))
+    (ap (add c.args.stand (parts c.args.maker.now)) (unary_tree c.args.expr.now a.op a.place a.operand d.result.now d.ensures a.is))
     c.add_unary.ensures
 
 pub add_expr-returns-in-Binary : goal.add_expr-returns-in-Binary
@@ -30,8 +26,7 @@ add_expr-returns-in-Binary t c =
     let a = c.in-Binary in
     let d = c.deref-in-Binary in
     added_as c.add_pair.result (parts c.add_pair.new.maker) _ _
-    (ap (add c.args.stand (parts c.args.maker.now))
-    (binary_tree c.args.expr.now a.op a.place a.inside d.result.now d.ensures a.is))
+    (ap (add c.args.stand (parts c.args.maker.now)) (binary_tree c.args.expr.now a.op a.place a.inside d.result.now d.ensures a.is))
     c.add_pair.ensures
 
 pub add_expr-returns-in-If : goal.add_expr-returns-in-If
@@ -39,8 +34,7 @@ add_expr-returns-in-If t c =
     let a = c.in-If in
     let d = c.deref-in-If in
     added_as c.add_conditional.result (parts c.add_conditional.new.maker) _ _
-    (ap (add c.args.stand (parts c.args.maker.now))
-    (conditional_tree c.args.expr.now a.place a.inside d.result.now d.ensures a.is))
+    (ap (add c.args.stand (parts c.args.maker.now)) (conditional_tree c.args.expr.now a.place a.inside d.result.now d.ensures a.is))
     c.add_conditional.ensures
 
 pub add_expr-returns-in-Call : goal.add_expr-returns-in-Call
@@ -48,8 +42,7 @@ add_expr-returns-in-Call t c =
     let a = c.in-Call in
     let d = c.deref-in-Call in
     added_as c.add_call.result (parts c.add_call.new.maker) _ _
-    (ap (add c.args.stand (parts c.args.maker.now))
-    (call_tree c.args.expr.now a.place a.inside d.result.now d.ensures a.is))
+    (ap (add c.args.stand (parts c.args.maker.now)) (call_tree c.args.expr.now a.place a.inside d.result.now d.ensures a.is))
     c.add_call.ensures
 
 pub add_expr-returns-in-Block : goal.add_expr-returns-in-Block
@@ -57,8 +50,7 @@ add_expr-returns-in-Block t c =
     let a = c.in-Block in
     let d = c.deref-in-Block in
     added_as c.add_block.result (parts c.add_block.new.maker) _ _
-    (ap (add c.args.stand (parts c.args.maker.now))
-    (block_tree c.args.expr.now a.place a.inside d.result.now d.ensures a.is))
+    (ap (add c.args.stand (parts c.args.maker.now)) (block_tree c.args.expr.now a.place a.inside d.result.now d.ensures a.is))
     c.add_block.ensures
 
 pub add_expr-returns-in-Loop : goal.add_expr-returns-in-Loop
@@ -66,8 +58,7 @@ add_expr-returns-in-Loop t c =
     let a = c.in-Loop in
     let d = c.deref-in-Loop in
     added_as c.add_loop.result (parts c.add_loop.new.maker) _ _
-    (ap (add c.args.stand (parts c.args.maker.now))
-    (loop_tree c.args.expr.now a.place a.inside d.result.now d.ensures a.is))
+    (ap (add c.args.stand (parts c.args.maker.now)) (loop_tree c.args.expr.now a.place a.inside d.result.now d.ensures a.is))
     c.add_loop.ensures
 
 pub add_expr-returns-in-For : goal.add_expr-returns-in-For
@@ -75,8 +66,7 @@ add_expr-returns-in-For t c =
     let a = c.in-For in
     let d = c.deref-in-For in
     added_as c.add_for.result (parts c.add_for.new.maker) _ _
-    (ap (add c.args.stand (parts c.args.maker.now))
-    (counted_tree c.args.expr.now a.place a.inside d.result.now d.ensures a.is))
+    (ap (add c.args.stand (parts c.args.maker.now)) (counted_tree c.args.expr.now a.place a.inside d.result.now d.ensures a.is))
     c.add_for.ensures
 
 pub add_expr-returns-in-Array : goal.add_expr-returns-in-Array
@@ -84,8 +74,7 @@ add_expr-returns-in-Array t c =
     let a = c.in-Array in
     let d = c.deref-in-Array in
     added_as c.add_pair-in-Array.result (parts c.add_pair-in-Array.new.maker) _ _
-    (ap (add c.args.stand (parts c.args.maker.now))
-    (array_tree a.nested c.args.expr.now a.place a.inside d.result.now d.ensures a.is))
+    (ap (add c.args.stand (parts c.args.maker.now)) (array_tree a.nested c.args.expr.now a.place a.inside d.result.now d.ensures a.is))
     c.add_pair-in-Array.ensures
 
 pub add_expr-returns-in-Fetch : goal.add_expr-returns-in-Fetch
@@ -93,16 +82,14 @@ add_expr-returns-in-Fetch t c =
     let a = c.in-Fetch in
     let d = c.deref-in-Fetch in
     added_as c.add_pair-in-Fetch.result (parts c.add_pair-in-Fetch.new.maker) _ _
-    (ap (add c.args.stand (parts c.args.maker.now))
-    (fetch_tree c.args.expr.now a.place a.inside d.result.now d.ensures a.is))
+    (ap (add c.args.stand (parts c.args.maker.now)) (fetch_tree c.args.expr.now a.place a.inside d.result.now d.ensures a.is))
     c.add_pair-in-Fetch.ensures
 
 pub add_unary-returns : goal.add_unary-returns
 add_unary-returns t c =
     let U = parts c.add_expr.new.maker in
     added_as c.push.result (parts c.push.new.self) _ _
-    (unary_row c.args.stand (parts c.args.maker.now) U c.args.op (tree_of c.args.operand.now) c.args.place
-    c.len-first.result c.in_ok-operand.operand
+    (unary_row c.args.stand (parts c.args.maker.now) U c.args.op (tree_of c.args.operand.now) c.args.place c.len-first.result c.in_ok-operand.operand
     (omega arith) c.in_ok-operand.ensures)
     c.push.ensures.added
 
@@ -112,24 +99,18 @@ add_pair-returns t c =
     let V = parts c.add_expr-2.new.maker in
     let v = c.args.inside.now in
     added_as c.push.result (parts c.push.new.self) _ _
-    (pair_row c.args.stand (parts c.args.maker.now) U V c.args.form (tree_of v.first) (tree_of v.second)
-    c.pair_node.result c.args.place c.len-start.result
-    c.in_ok-first.first c.in_ok-second.second c.pair_node.ensures (omega arith) c.in_ok-first.ensures
-    c.in_ok-second.ensures)
+    (pair_row c.args.stand (parts c.args.maker.now) U V c.args.form (tree_of v.first) (tree_of v.second) c.pair_node.result c.args.place c.len-start.result
+    c.in_ok-first.first c.in_ok-second.second c.pair_node.ensures (omega arith) c.in_ok-first.ensures c.in_ok-second.ensures)
     c.push.ensures.added
 
 pub add_conditional-returns : goal.add_conditional-returns
 add_conditional-returns t c =
     let v = c.args.inside.now in
     added_as c.push_if.result (parts c.push_if.new.self) _ _
-    (conditional_row c.args.stand c.in_ok-side.side c.other_side.result (parts c.args.maker.now)
-    (parts c.add_expr.new.maker)
-    (parts c.push_sides.new.self) (parts c.add_expr-2.new.maker) (parts c.add_expr-3.new.maker) (tree_of v.first)
-    (tree_of v.second) (tree_of v.third)
-    c.args.place c.len-first.result c.in_ok-test.test c.in_ok-then.then c.in_ok-otherwise.otherwise (omega arith)
-    c.in_ok-test.ensures
-    c.in_ok-side.ensures.added c.in_ok-side.ensures.side c.in_ok-then.ensures c.other_side.ensures
-    c.in_ok-otherwise.ensures)
+    (conditional_row c.args.stand c.in_ok-side.side c.other_side.result (parts c.args.maker.now) (parts c.add_expr.new.maker)
+    (parts c.push_sides.new.self) (parts c.add_expr-2.new.maker) (parts c.add_expr-3.new.maker) (tree_of v.first) (tree_of v.second) (tree_of v.third)
+    c.args.place c.len-first.result c.in_ok-test.test c.in_ok-then.then c.in_ok-otherwise.otherwise (omega arith) c.in_ok-test.ensures
+    c.in_ok-side.ensures.added c.in_ok-side.ensures.side c.in_ok-then.ensures c.other_side.ensures c.in_ok-otherwise.ensures)
     c.push_if.ensures
 
 pub add_call-returns : goal.add_call-returns
@@ -139,19 +120,16 @@ add_call-returns t c =
     let es = c.args.inside.now.args.items in
     let s = c.as_slice-args.ensures.value in
     added_as c.push.result (parts c.push.new.self) _ _
-    (call_row c.args.stand T E (parts c.add_arguments.new.maker) c.args.inside.now.name es c.args.place
-    c.in_ok-enter.enter _
+    (call_row c.args.stand T E (parts c.add_arguments.new.maker) c.args.inside.now.name es c.args.place c.in_ok-enter.enter _
     c.in_ok-enter.ensures.number c.in_ok-enter.ensures.added
-    (c.in_ok-add_arguments.ensures
-    ∙ ap (λ v. add_arguments c.args.stand c.args.place c.in_ok-enter.enter 0 E (exprs_tree v)) s)
+    (c.in_ok-add_arguments.ensures ∙ ap (λ v. add_arguments c.args.stand c.args.place c.in_ok-enter.enter 0 E (exprs_tree v)) s)
     (ap length s))
     c.push.ensures.added
 
 pub add_argument-returns : goal.add_argument-returns
 add_argument-returns t c =
     done_as c.push_arg.result (parts c.push_arg.new.self) _ _
-    (argument_row c.args.stand (parts c.args.maker.now) (parts c.add_expr.new.maker) (tree_of c.args.argument.now)
-    c.args.place c.args.enter
+    (argument_row c.args.stand (parts c.args.maker.now) (parts c.add_expr.new.maker) (tree_of c.args.argument.now) c.args.place c.args.enter
     c.args.index c.in_ok-value.value c.in_ok-value.ensures)
     c.push_arg.ensures
 
@@ -161,10 +139,8 @@ add_block-returns t c =
     let U = parts c.add_statements.new.maker in
     let v = c.args.inside.now in
     added_as c.push.result (parts c.push.new.self) _ _
-    (block_row c.args.stand T U (parts c.add_expr.new.maker) (stmts_tree v.statements.items) (tree_of v.body)
-    c.args.place c.len-first.result
-    c.in_ok-body.body (omega arith) (c.in_ok-add_statements.ensures
-    ∙ ap (λ ss. add c.args.stand T (stmts_tree ss)) c.as_slice.ensures.value)
+    (block_row c.args.stand T U (parts c.add_expr.new.maker) (stmts_tree v.statements.items) (tree_of v.body) c.args.place c.len-first.result
+    c.in_ok-body.body (omega arith) (c.in_ok-add_statements.ensures ∙ ap (λ ss. add c.args.stand T (stmts_tree ss)) c.as_slice.ensures.value)
     c.in_ok-body.ensures)
     c.push.ensures.added
 
@@ -172,16 +148,14 @@ pub add_statements-loop-statement-preserved : goal.add_statements-loop-statement
 add_statements-loop-statement-preserved t c =
     let s = c.args.stand in
     let T = parts c.loop-statement.maker in
-    statement_step s c.loop-statement.statement-index T (parts c.add_statement.new.maker)
-    (add s (parts c.args.maker.now) (stmts_tree c.args.statements.now))
+    statement_step s c.loop-statement.statement-index T (parts c.add_statement.new.maker) (add s (parts c.args.maker.now) (stmts_tree c.args.statements.now))
     c.args.statements.now c.statement-item.result c.loop-statement-test.true
     (c.in_ok-add_statement.ensures ∙ ap (λ x. add s T (stmt_tree x)) c.statement-item.is) c.loop-statement.invariant
 
 pub add_binding-returns : goal.add_binding-returns
 add_binding-returns t c =
     done_as c.push_binding.result (parts c.push_binding.new.self) _ _
-    (binding_row c.args.stand (parts c.args.maker.now) (parts c.add_expr.new.maker) c.args.name.now
-    (tree_of c.args.value.now) c.args.place
+    (binding_row c.args.stand (parts c.args.maker.now) (parts c.add_expr.new.maker) c.args.name.now (tree_of c.args.value.now) c.args.place
     c.len-first.result c.in_ok-value.value (omega arith) c.in_ok-value.ensures)
     c.push_binding.ensures
 
@@ -189,22 +163,17 @@ pub add_store-returns : goal.add_store-returns
 add_store-returns t c =
     let v = c.args.inside.now in
     done_as c.put.result (parts c.put.new.self) _ _
-    (store_row c.args.stand (parts c.args.maker.now) (parts c.add_expr.new.maker) (parts c.add_expr-2.new.maker)
-    (parts c.push.new.self)
-    (parts c.add_expr-3.new.maker) (tree_of v.first) (tree_of v.second) (tree_of v.third) c.args.place
-    c.len-first.result c.in_ok-target.target
-    c.in_ok-index.index c.in_ok-address.address c.in_ok-value.value (omega arith) c.in_ok-target.ensures
-    c.in_ok-index.ensures
+    (store_row c.args.stand (parts c.args.maker.now) (parts c.add_expr.new.maker) (parts c.add_expr-2.new.maker) (parts c.push.new.self)
+    (parts c.add_expr-3.new.maker) (tree_of v.first) (tree_of v.second) (tree_of v.third) c.args.place c.len-first.result c.in_ok-target.target
+    c.in_ok-index.index c.in_ok-address.address c.in_ok-value.value (omega arith) c.in_ok-target.ensures c.in_ok-index.ensures
     c.in_ok-address.ensures.added.parts c.in_ok-address.ensures.number c.in_ok-value.ensures)
     c.put.ensures
 
 pub add_next-returns : goal.add_next-returns
 add_next-returns t c =
     done_as c.push_next.result (parts c.push_next.new.self) _ _
-    (next_row c.args.stand (parts c.args.maker.now) (parts c.push_use.new.self) (parts c.add_expr.new.maker)
-    c.args.name.now
-    (tree_of c.args.expr.now) c.args.place c.len-outer.result c.in_ok-number.number c.args.index c.in_ok-value.value
-    (omega arith)
+    (next_row c.args.stand (parts c.args.maker.now) (parts c.push_use.new.self) (parts c.add_expr.new.maker) c.args.name.now
+    (tree_of c.args.expr.now) c.args.place c.len-outer.result c.in_ok-number.number c.args.index c.in_ok-value.value (omega arith)
     c.in_ok-number.ensures.added c.in_ok-number.ensures.number c.in_ok-value.ensures)
     c.push_next.ensures
 
@@ -221,16 +190,13 @@ add_loop_statements-loop-statement-preserved t c =
       | add_loop_statements-in-Next+in_ok-add_next-in-Next w ↦ record {
         counted = omega (arith, c.loop-statement.invariant.counted, w.index-is);
         rest = ap (λ n. add_nexts s n (parts c.match-statement.maker) (stmts_tree (drop (i + 1) xs))) w.index-is
-            ∙ next_step s k i T (parts c.match-statement.maker) V xs w.in-Next.name w.in-Next.value w.in-Next.place d
-            c.loop-statement-test.true
-            (sym c.statement-item.is ∙ w.in-Next.is) (ap parts w.maker-is ∙ w.in_ok-add_next-in-Next.ensures)
-            c.loop-statement.invariant.rest;
+            ∙ next_step s k i T (parts c.match-statement.maker) V xs w.in-Next.name w.in-Next.value w.in-Next.place d c.loop-statement-test.true
+            (sym c.statement-item.is ∙ w.in-Next.is) (ap parts w.maker-is ∙ w.in_ok-add_next-in-Next.ensures) c.loop-statement.invariant.rest;
       }
       | add_loop_statements-in_default+in_ok-add_statement-in_default w ↦ record {
         counted = omega (arith, c.loop-statement.invariant.counted, w.index-is);
         rest = ap (λ n. add_nexts s n (parts c.match-statement.maker) (stmts_tree (drop (i + 1) xs))) w.index-is
-            ∙ other_step s k i T (parts c.match-statement.maker) V xs d c.loop-statement-test.true c.statement-item.is
-            w.in_default.not-Next
+            ∙ other_step s k i T (parts c.match-statement.maker) V xs d c.loop-statement-test.true c.statement-item.is w.in_default.not-Next
             (ap parts w.maker-is ∙ w.in_ok-add_statement-in_default.ensures) c.loop-statement.invariant.rest;
       }
     ]
@@ -257,10 +223,8 @@ add_body-returns t c =
 pub add_counting-returns : goal.add_counting-returns
 add_counting-returns t c =
     on_ok_weaker c.add_loop_statements.result
-    (counting_row c.args.stand (parts c.args.maker.now) (parts c.begin_counting.new.self)
-    (parts c.add_loop_statements.new.maker)
-    c.args.name.now c.args.index (stmts_tree c.args.statements.now) c.args.place c.in_ok-begun.begun
-    c.in_ok-begun.ensures)
+    (counting_row c.args.stand (parts c.args.maker.now) (parts c.begin_counting.new.self) (parts c.add_loop_statements.new.maker)
+    c.args.name.now c.args.index (stmts_tree c.args.statements.now) c.args.place c.in_ok-begun.begun c.in_ok-begun.ensures)
     c.add_loop_statements.ensures
 
 pub add_loop-returns : goal.add_loop-returns
@@ -272,13 +236,10 @@ add_loop-returns t c =
     let s = c.as_slice-statements.ensures.value in
     let b = c.in_ok-body.body in
     added_as c.end_loop.result (parts c.end_loop.new.self) _ _
-    (loop_row c.args.stand c.in_ok-inside.inside b c.other_side-behind.result T (parts c.begin_loop.new.self)
-    (parts c.add_expr.new.maker) W
-    (parts c.add_body.new.maker) (parts c.add_expr-2.new.maker) (tree_of v.test) (stmts_tree v.statements.items)
-    (tree_of v.last) p
+    (loop_row c.args.stand c.in_ok-inside.inside b c.other_side-behind.result T (parts c.begin_loop.new.self) (parts c.add_expr.new.maker) W
+    (parts c.add_body.new.maker) (parts c.add_expr-2.new.maker) (tree_of v.test) (stmts_tree v.statements.items) (tree_of v.last) p
     c.len-start.result c.len-entered.result c.in_ok-test.test c.len-closed.result c.in_ok-last.last (omega arith)
-    (c.in_ok-inside.ensures.added ∙ ap (λ ss. begin_loop c.args.stand T (stmts_tree ss) p) s)
-    c.in_ok-inside.ensures.inside (omega arith)
+    (c.in_ok-inside.ensures.added ∙ ap (λ ss. begin_loop c.args.stand T (stmts_tree ss) p) s) c.in_ok-inside.ensures.inside (omega arith)
     c.in_ok-test.ensures c.in_ok-body.ensures.added c.in_ok-body.ensures.side
     (c.in_ok-add_body.ensures ∙ ap (λ ss. add_body b W (stmts_tree ss) p) s) c.other_side-behind.ensures (omega arith)
     c.in_ok-last.ensures)
@@ -293,17 +254,12 @@ add_for-returns t c =
     let s = c.as_slice-statements.ensures.value in
     let b = c.in_ok-body.body in
     added_as c.end_loop.result (parts c.end_loop.new.self) _ _
-    (for_row c.args.stand b c.other_side-behind.result (parts c.args.maker.now) (parts c.add_expr.new.maker)
-    (parts c.add_expr-2.new.maker) A W
-    (parts c.add_counting.new.maker) (parts c.add_expr-3.new.maker) v.name v.index (tree_of v.low) (tree_of v.high)
-    (stmts_tree v.statements.items)
-    (tree_of v.last) p c.len-first.result c.len-start.result c.in_ok-low.low c.in_ok-high.high c.len-closed.result
-    c.in_ok-last.last (omega arith)
+    (for_row c.args.stand b c.other_side-behind.result (parts c.args.maker.now) (parts c.add_expr.new.maker) (parts c.add_expr-2.new.maker) A W
+    (parts c.add_counting.new.maker) (parts c.add_expr-3.new.maker) v.name v.index (tree_of v.low) (tree_of v.high) (stmts_tree v.statements.items)
+    (tree_of v.last) p c.len-first.result c.len-start.result c.in_ok-low.low c.in_ok-high.high c.len-closed.result c.in_ok-last.last (omega arith)
     c.in_ok-low.ensures c.in_ok-high.ensures c.in_ok-put.ensures (omega arith)
-    (c.in_ok-body.ensures.added ∙ ap (λ ss. begin_for c.args.stand A (stmts_tree ss) v.index p) s)
-    c.in_ok-body.ensures.side
-    (c.in_ok-add_counting.ensures ∙ ap (λ ss. add_counting b W v.name v.index (stmts_tree ss) p) s)
-    c.other_side-behind.ensures (omega arith)
+    (c.in_ok-body.ensures.added ∙ ap (λ ss. begin_for c.args.stand A (stmts_tree ss) v.index p) s) c.in_ok-body.ensures.side
+    (c.in_ok-add_counting.ensures ∙ ap (λ ss. add_counting b W v.name v.index (stmts_tree ss) p) s) c.other_side-behind.ensures (omega arith)
     c.in_ok-last.ensures)
     c.end_loop.ensures
 
@@ -333,8 +289,7 @@ add_statement-returns-in-Store t c =
     let a = c.in-Store in
     let d = c.deref in
     done_as c.add_store.result (parts c.add_store.new.maker) _ _
-    (ap (add c.args.stand (parts c.args.maker.now))
-    (store_tree c.args.statement.now a.place a.inside d.result.now d.ensures a.is))
+    (ap (add c.args.stand (parts c.args.maker.now)) (store_tree c.args.statement.now a.place a.inside d.result.now d.ensures a.is))
     c.add_store.ensures
 
 -- each call goes to a part, or to a later function of its rank

@@ -5,8 +5,7 @@ use Rattle.id_table.proofs.walk.+add.Given as goal
 
 abbrev pub invariant-add_statements-loop-statement : goal.invariant-add_statements-loop-statement
 invariant-add_statements-loop-statement l =
-    add l.stand (parts l.maker) (stmts_tree (drop l.statement-index l.statements))
-    ≡ add l.stand (parts l.initial.maker) (stmts_tree l.statements)
+    add l.stand (parts l.maker) (stmts_tree (drop l.statement-index l.statements)) ≡ add l.stand (parts l.initial.maker) (stmts_tree l.statements)
 
 abbrev pub decreases-add_expr : goal.decreases-add_expr
 decreases-add_expr l = 4 * goal.size-add_expr l

@@ -9,7 +9,5 @@ pub loop-def-preserved : goal.loop-def-preserved
 loop-def-preserved c =
     let T = parts c.loop-def.maker in
     let xs = c.args.defs.now in
-    def_step c.loop-def.def-index T (parts c.add_def.new.maker) (add (in_top 0) (parts c.args.maker.now) (defs_tree xs))
-    xs c.def-item.result
-    c.loop-def-test.true (c.in_ok-add_def.ensures ∙ ap (λ x. add (in_top 0) T (def_tree x)) c.def-item.is)
-    c.loop-def.invariant
+    def_step c.loop-def.def-index T (parts c.add_def.new.maker) (add (in_top 0) (parts c.args.maker.now) (defs_tree xs)) xs c.def-item.result
+    c.loop-def-test.true (c.in_ok-add_def.ensures ∙ ap (λ x. add (in_top 0) T (def_tree x)) c.def-item.is) c.loop-def.invariant

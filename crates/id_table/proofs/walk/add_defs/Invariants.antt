@@ -5,6 +5,4 @@ use Rattle.id_table.specs.Making.{parts}
 use Rattle.id_table.proofs.walk.add_defs.Given as goal
 
 abbrev pub invariant-loop-def : goal.invariant-loop-def
-invariant-loop-def l =
-    add (in_top 0) (parts l.maker) (defs_tree (drop l.def-index l.defs))
-    ≡ add (in_top 0) (parts l.initial.maker) (defs_tree l.defs)
+invariant-loop-def l = add (in_top 0) (parts l.maker) (defs_tree (drop l.def-index l.defs)) ≡ add (in_top 0) (parts l.initial.maker) (defs_tree l.defs)

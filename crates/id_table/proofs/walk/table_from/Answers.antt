@@ -13,11 +13,9 @@ invariant_of-result c =
     let made = c.in_ok-maker.ensures in
     let rows : c.in_ok-maker.maker.rows.items ≡ rows_of t = ap (λ (T : Parts). T.rows) made in
     let table = IsTable-rows_of t (IsProgramTree-program_tree c.args.program.now) in
-    let names : c.in_ok-names.names.items ≡ (parts_of t).names =
-    c.in_ok-names.ensures ∙ ap (λ (T : Parts). T.names) made in
+    let names : c.in_ok-names.names.items ≡ (parts_of t).names = c.in_ok-names.ensures ∙ ap (λ (T : Parts). T.names) made in
     record {
       formed = subst IsFormed (sym rows) table.formed;
       nested = subst IsNested (sym rows) table.nested;
-      named = subst (λ R. AreNamed R c.in_ok-names.names.items) (sym rows)
-          (subst (AreNamed (rows_of t)) (sym names) (AreNamed-parts_of t));
+      named = subst (λ R. AreNamed R c.in_ok-names.names.items) (sym rows) (subst (AreNamed (rows_of t)) (sym names) (AreNamed-parts_of t));
     }

@@ -13,5 +13,4 @@ returns-in-Some c =
     let opens = opens_by_first is_ascii_digit c.args.rest.now c.requires.before_end c.requires.digit in
     let small : SFits w64 c.in-Some.value = search rules in
     rw (to_z-of_z w64 c.in-Some.value small)
-    (begins_number c.args.rest.now c.digits_len-len.result c.in-Some.value opens c.digits_len-len.ensures
-    c.in-Some.ensures.0 c.in-Some.ensures.1)
+    (begins_number c.args.rest.now c.digits_len-len.result c.in-Some.value opens c.digits_len-len.ensures c.in-Some.ensures.0 c.in-Some.ensures.1)

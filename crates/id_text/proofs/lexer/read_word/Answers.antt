@@ -9,8 +9,5 @@ returns c =
     let run = c.word_at-word.ensures in
     elim c.match-keyword_of.branch [
       | in-Some w ↦ rw w.kind-is (begins_word _ _ w.in-Some.keyword opens run w.in-Some.ensures)
-      | in-None+in_ok-new-in-None w ↦ rw (
-        w.kind-is,
-        w.in_ok-new-in-None.ensures,
-      ) (begins_name _ _ opens run w.in-None.ensures)
+      | in-None+in_ok-new-in-None w ↦ rw (w.kind-is, w.in_ok-new-in-None.ensures) (begins_name _ _ opens run w.in-None.ensures)
     ]

@@ -8,9 +8,7 @@ use Rattle.std.proofs.lemmas.List.{take_rest}
 
 -- `name_len` counts the bytes of the word
 len_is : (c : After-name_len-len) → c.name_len-len.result ≡ prefix_len is_name_byte (drop c.args.at c.args.text.now)
-len_is c =
-    rw (← c.as_bytes.ensures.value) (c.name_len-len.ensures
-    ∙ ap (prefix_len is_name_byte) (take_rest c.as_bytes.result.now c.args.at))
+len_is c = rw (← c.as_bytes.ensures.value) (c.name_len-len.ensures ∙ ap (prefix_len is_name_byte) (take_rest c.as_bytes.result.now c.args.at))
 
 pub overflow_add-at : goal.overflow_add-at
 overflow_add-at c = omega (arith, len_is c, word_fits c.args.text.now c.args.at c.requires.before_end)

@@ -17,20 +17,15 @@ pub returns-then-is_deeper-clause-ok : goal.returns-then-is_deeper-clause-ok
 returns-then-is_deeper-clause-ok c =
     let is : (c.in-Some.kind ≡ kind.Array) × (first_kind c.split.result.1.list.now ≡ Key Array) = search rules in
     let named = sym c.kind_at.ensures ∙ c.in-Some.is in
-    Types-deeper c.in_ok-named.ensures.ok
-    (c.split.ensures.whole (λ q. kind_named-begins named (c.split.ensures.kind ∙ q))) (named ∙ ap (λ k. Some k) is.0)
-    (c.split-then-is_deeper.ensures.whole (λ q. cc))
+    Types-deeper c.in_ok-named.ensures.ok (c.split.ensures.whole (λ q. kind_named-begins named (c.split.ensures.kind ∙ q))) (named ∙ ap (λ k. Some k) is.0) (c.split-then-is_deeper.ensures.whole (λ q. cc))
     is.1
 
 pub returns-else-is_deeper-clause-ok : goal.returns-else-is_deeper-clause-ok
 returns-else-is_deeper-clause-ok c =
-    let not : c.in-Some.kind ≡ kind.Array → first_kind c.split.result.1.list.now ≡ Key Array → ⊥ =
-    λ e f. search rules in
+    let not : c.in-Some.kind ≡ kind.Array → first_kind c.split.result.1.list.now ≡ Key Array → ⊥ = λ e f. search rules in
     let named = sym c.kind_at.ensures ∙ c.in-Some.is in
-    Types-done c.in_ok-named.ensures.ok c.in-Some.kind
-    (c.split.ensures.whole (λ q. kind_named-begins named (c.split.ensures.kind ∙ q))) named not
+    Types-done c.in_ok-named.ensures.ok c.in-Some.kind (c.split.ensures.whole (λ q. kind_named-begins named (c.split.ensures.kind ∙ q))) named not
 
 pub returns-in-None-clause-err : goal.returns-in-None-clause-err
-returns-in-None-clause-err c =
-    Untypes-kind c.in_ok-named.ensures.ok c.unexpected.result c.split.ensures.head.1 c.unexpected.ensures
+returns-in-None-clause-err c = Untypes-kind c.in_ok-named.ensures.ok c.unexpected.result c.split.ensures.head.1 c.unexpected.ensures
     (sym c.kind_at.ensures ∙ c.in-None.is)

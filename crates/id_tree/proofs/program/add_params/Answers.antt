@@ -5,8 +5,7 @@ use Rattle.id_text.specs.declared.token.Symbol.TheVariants.{RightParen, Comma}
 use Rattle.id_grammar.specs.Readers.{first_kind}
 use Rattle.id_tree.proofs.ReadLemmas.{IsBehind-token, IsBehind-then}
 use Rattle.id_grammar.proofs.ReaderLemmas.{first_of}
-use Rattle.id_grammar.proofs.ParamLemmas.{IsBehind-more, Leads-none, Counts-first, Counts-add, Leads-listed}
-use Rattle.id_grammar.proofs.ParamLemmas.{Fails-listed, Fails-next, Fails-first}
+use Rattle.id_grammar.proofs.ParamLemmas.{IsBehind-more, Leads-none, Counts-first, Counts-add, Leads-listed, Fails-listed, Fails-next, Fails-first}
 use Rattle.id_tree.proofs.program.add_params.Goals as goal
 
 pub params-init : goal.params-init
@@ -24,10 +23,8 @@ params-preserved c =
 
 pub returns-then-is_sign : goal.returns-then-is_sign
 returns-then-is_sign c =
-    let is : c.split.result.0.now.kind ≡ Sign RightParen = search rules in (
-      IsBehind-token (c.split.ensures.whole (λ q. cc)),
-      rw c.requires.none (Leads-none (c.split.ensures.whole (λ q. cc)) is),
-    )
+    let is : c.split.result.0.now.kind ≡ Sign RightParen = search rules in
+    (IsBehind-token (c.split.ensures.whole (λ q. cc)), rw c.requires.none (Leads-none (c.split.ensures.whole (λ q. cc)) is))
 
 pub returns-in-Err : goal.returns-in-Err
 returns-in-Err c =

@@ -16,16 +16,14 @@ use Rattle.id_tree.proofs.program.parse.Goals as goal
 pub returns-clause-tree : goal.returns-clause-tree
 returns-clause-tree c =
     let ts = c.args.tokens.now in
-    IfOk-weaker c.parse_program.result (λ p. run 200 ts (Begin []) ≡ Accepted (program_tree p))
-    (λ p. Accepts ts (program_tree p))
+    IfOk-weaker c.parse_program.result (λ p. run 200 ts (Begin []) ≡ Accepted (program_tree p)) (λ p. Accepts ts (program_tree p))
     (λ p q. Accepts-from_run ts (program_tree p) q) c.parse_program.ensures.ok
 
 pub returns-clause-only : goal.returns-clause-only
 returns-clause-only c = λ e a.
     let ts = c.args.tokens.now in
     MatchResult-weaker c.parse_program.result
-    (MatchResult-from_both c.parse_program.result (λ p. run 200 ts (Begin []) ≡ Accepted (program_tree p))
-    (EndsBy (run 200 ts (Begin [])))
+    (MatchResult-from_both c.parse_program.result (λ p. run 200 ts (Begin []) ≡ Accepted (program_tree p)) (EndsBy (run 200 ts (Begin [])))
     c.parse_program.ensures.ok c.parse_program.ensures.err)
     (λ p q. Same-from_run ts (program_tree p) e q a) (λ x q. IsMemory-from_run ts x e q a)
 
@@ -33,15 +31,13 @@ pub returns-clause-distinct : goal.returns-clause-distinct
 returns-clause-distinct c =
     let ts = c.args.tokens.now in
     let l = Laid-rises ts c.requires.rises in
-    IfOk-weaker c.parse_program.result (λ p. run 200 ts (Begin []) ≡ Accepted (program_tree p))
-    (λ p. Distinct (program_tree p))
+    IfOk-weaker c.parse_program.result (λ p. run 200 ts (Begin []) ≡ Accepted (program_tree p)) (λ p. Distinct (program_tree p))
     (λ p q. Program-distinct (Accepts-from_run ts (program_tree p) q).derives 0 l.0 l.1) c.parse_program.ensures.ok
 
 pub returns-clause-within : goal.returns-clause-within
 returns-clause-within c =
     let ts = c.args.tokens.now in
-    IfOk-weaker c.parse_program.result (λ p. run 200 ts (Begin []) ≡ Accepted (program_tree p))
-    (λ p. PlacesAreStarts ts (program_tree p))
+    IfOk-weaker c.parse_program.result (λ p. run 200 ts (Begin []) ≡ Accepted (program_tree p)) (λ p. PlacesAreStarts ts (program_tree p))
     (λ p q. Program-starts (Accepts-from_run ts (program_tree p) q).derives) c.parse_program.ensures.ok
 
 pub returns-clause-refused : goal.returns-clause-refused

@@ -24,10 +24,7 @@ returns-in-Err-clause-err c =
 pub returns-in-Err-expect_end-clause-err : goal.returns-in-Err-expect_end-clause-err
 returns-in-Err-expect_end-clause-err c =
     let is_not : first_kind c.defs.rest.list.now ≡ Key Def → ⊥ = search rules in
-    Amasses-stops c.defs.invariant c.in-Err-expect_end.error c.defs.rest.ends is_not c.in-Err-expect_end.ensures.some
-    c.in-Err-expect_end.ensures.err
+    Amasses-stops c.defs.invariant c.in-Err-expect_end.error c.defs.rest.ends is_not c.in-Err-expect_end.ensures.some c.in-Err-expect_end.ensures.err
 
 pub returns-clause-ok : goal.returns-clause-ok
-returns-clause-ok c =
-    Amasses-accepts c.defs.invariant c.defs.rest.ends c.in-Ok-expect_end.ensures.ok
-    ∙ ap (λ ds. Accepted (defs_tree ds)) (sym c.new.ensures)
+returns-clause-ok c = Amasses-accepts c.defs.invariant c.defs.rest.ends c.in-Ok-expect_end.ensures.ok ∙ ap (λ ds. Accepted (defs_tree ds)) (sym c.new.ensures)

@@ -7,7 +7,5 @@ use Rattle.id_valid.proofs.roles.main_block.Goals as goal
 pub returns-in-Some : goal.returns-in-Some
 returns-in-Some c b alone =
     let one = rw c.in-Some.is at c.loop-block.invariant
-    in let passes : has_main_place c.args.graph.now
-    (get_or c.blocks-block-items.result.now c.loop-block.block-index c.block-item.result) ≡ true = cc
-    in filter-not_one (has_main_place c.args.graph.now) _ _ c.block-item.result _ b c.loop-block-test.true one passes
-    (rw c.blocks-block-items.ensures alone)
+    in let passes : has_main_place c.args.graph.now (get_or c.blocks-block-items.result.now c.loop-block.block-index c.block-item.result) ≡ true = cc
+    in filter-not_one (has_main_place c.args.graph.now) _ _ c.block-item.result _ b c.loop-block-test.true one passes (rw c.blocks-block-items.ensures alone)

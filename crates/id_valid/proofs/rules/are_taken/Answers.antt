@@ -11,8 +11,7 @@ returns-then-all_take c =
     let L : List Dest → Type 0 = λ ds. All P ds in
     let firsts = subst L c.as_slice.ensures (c.all_take.ensures.0 c.if-all_take.true) in (
       λ yes. All-arcs P c.args.instr.now firsts (subst L c.false_arcs.ensures (c.all_take-then-all_take.ensures.0 yes)),
-      λ all. c.all_take-then-all_take.ensures.1
-          (subst L (sym c.false_arcs.ensures) (All-false_arcs P c.args.instr.now all)),
+      λ all. c.all_take-then-all_take.ensures.1 (subst L (sym c.false_arcs.ensures) (All-false_arcs P c.args.instr.now all)),
     )
 
 pub returns-else-all_take : goal.returns-else-all_take

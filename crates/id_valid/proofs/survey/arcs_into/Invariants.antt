@@ -6,6 +6,4 @@ use Rattle.id_valid.proofs.survey.arcs_into.Given as goal
 
 -- the arcs of the instructions so far are added
 abbrev pub invariant-loop-instr : goal.invariant-loop-instr
-invariant-loop-instr l =
-    Adds l.initial.counts.items l.counts.items
-    (λ k. sum_by (λ i. count_by (is_dest k l.port) (arcs i)) (take l.instr-index l.instrs))
+invariant-loop-instr l = Adds l.initial.counts.items l.counts.items (λ k. sum_by (λ i. count_by (is_dest k l.port) (arcs i)) (take l.instr-index l.instrs))

@@ -27,7 +27,5 @@ pub returns : goal.returns
 returns c =
     let test : ℕ → Dest → _ = λ k d. is_dest k c.args.port d in
     Adds-arcs c.args.counts.now c.feed.new.counts c.feed-2.new.counts c.args.instr.now test
-    (subst (λ ds. Adds c.args.counts.now c.feed.new.counts (λ k. count_by (test k) ds)) c.as_slice.ensures
-    c.feed.ensures)
-    (subst (λ ds. Adds c.feed.new.counts c.feed-2.new.counts (λ k. count_by (test k) ds)) c.false_arcs.ensures
-    c.feed-2.ensures)
+    (subst (λ ds. Adds c.args.counts.now c.feed.new.counts (λ k. count_by (test k) ds)) c.as_slice.ensures c.feed.ensures)
+    (subst (λ ds. Adds c.feed.new.counts c.feed-2.new.counts (λ k. count_by (test k) ds)) c.false_arcs.ensures c.feed-2.ensures)

@@ -14,7 +14,5 @@ loop-number-preserved c =
 
 -- all instructions up to the end are sound
 pub returns : goal.returns
-returns c =
-    FirstFaulty-past _ c.loop-number.number _ (rw (← c.instrs-number-end.ensures.value) c.loop-number-test.false)
-    c.loop-number.invariant
+returns c = FirstFaulty-past _ c.loop-number.number _ (rw (← c.instrs-number-end.ensures.value) c.loop-number-test.false) c.loop-number.invariant
     c.first_past.ensures

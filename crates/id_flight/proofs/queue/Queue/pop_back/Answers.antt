@@ -7,8 +7,7 @@ use Rattle.id_flight.proofs.queue.Queue.pop_back.Goals as goal
 
 pub invariant_of-self-else-len-eq0 : goal.invariant_of-self-else-len-eq0
 invariant_of-self-else-len-eq0 c = (
-  all-before (IsWithin c.self.inside.asides.items) c.pop_back.new.self.items c.self.inside.parcels.items
-      c.in_ok-parcel.parcel c.in_ok-parcel.ensures.items
+  all-before (IsWithin c.self.inside.asides.items) c.pop_back.new.self.items c.self.inside.parcels.items c.in_ok-parcel.parcel c.in_ok-parcel.ensures.items
       c.self.invariant.0,
   grind (arith, common_steps),
   grind (arith, common_steps),

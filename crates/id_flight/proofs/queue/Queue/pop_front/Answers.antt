@@ -7,8 +7,7 @@ use Rattle.id_flight.proofs.queue.Queue.pop_front.Goals as goal
 
 pub invariant_of-self-else-len-eq0 : goal.invariant_of-self-else-len-eq0
 invariant_of-self-else-len-eq0 c = (
-  all-rest (IsWithin c.self.inside.asides.items) c.in_ok-parcel.parcel c.pop_front.new.self.items
-      c.self.inside.parcels.items c.in_ok-parcel.ensures.items
+  all-rest (IsWithin c.self.inside.asides.items) c.in_ok-parcel.parcel c.pop_front.new.self.items c.self.inside.parcels.items c.in_ok-parcel.ensures.items
       c.self.invariant.0,
   grind (arith, common_steps),
   grind (arith, common_steps),

@@ -10,8 +10,7 @@ use Rattle.id_flight.proofs.queue.Queue.push_back_reserved.Goals as goal
 pub returns-clause-messages : goal.returns-clause-messages
 returns-clause-messages c =
     let made = c.parcel_for-parcel in
-    messages-more c.self.inside.asides.items made.new.asides.items c.self.inside.parcels.items
-    c.push_back_reserved.new.self.items made.result c.args.message
+    messages-more c.self.inside.asides.items made.new.asides.items c.self.inside.parcels.items c.push_back_reserved.new.self.items made.result c.args.message
     made.ensures.others c.self.invariant.0 made.ensures.is c.push_back_reserved.ensures.items
     ∙ ap (λ v. v.messages ++ c.args.message ∷ []) c.self.view_is
 
@@ -27,8 +26,7 @@ invariant_of-self c =
     let more = made.new.asides.items in (
       subst (λ ps. All (IsWithin more) ps) (sym c.push_back_reserved.ensures.items)
           (All-push (IsWithin more) c.self.inside.parcels.items made.result
-          (all-kept c.self.inside.asides.items more c.self.inside.parcels.items made.ensures.others c.self.invariant.0)
-          made.ensures.within),
+          (all-kept c.self.inside.asides.items more c.self.inside.parcels.items made.ensures.others c.self.invariant.0) made.ensures.within),
       grind (arith, common_steps),
       grind (arith, common_steps),
     )

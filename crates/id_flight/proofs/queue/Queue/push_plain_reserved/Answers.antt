@@ -13,8 +13,7 @@ invariant_of-self c =
     let asides = c.self.inside.asides.items in
     let p = c.packed_plain.result in (
       subst (λ ps. All (IsWithin asides) ps) (sym c.push_back_reserved.ensures.items)
-          (All-push (IsWithin asides) c.self.inside.parcels.items p c.self.invariant.0
-          (c.packed_plain.ensures.within asides)),
+          (All-push (IsWithin asides) c.self.inside.parcels.items p c.self.invariant.0 (c.packed_plain.ensures.within asides)),
       grind (arith, common_steps),
       grind (arith, common_steps),
     )
@@ -23,7 +22,6 @@ pub returns-clause-messages : goal.returns-clause-messages
 returns-clause-messages c =
     let asides = c.self.inside.asides.items in
     let p = c.packed_plain.result in
-    messages-more asides asides c.self.inside.parcels.items c.push_back_reserved.new.self.items p
-    (message_of c.args.token.now) (λ q w. (w, refl))
+    messages-more asides asides c.self.inside.parcels.items c.push_back_reserved.new.self.items p (message_of c.args.token.now) (λ q w. (w, refl))
     c.self.invariant.0 (c.packed_plain.ensures.is asides) c.push_back_reserved.ensures.items
     ∙ ap (λ v. v.messages ++ message_of c.args.token.now ∷ []) c.self.view_is

@@ -15,8 +15,7 @@ invariant_of-self c =
     let asides = c.self.inside.asides.items in
     let p = c.packed_write.result in (
       subst (λ ps. All (IsWithin asides) ps) (sym c.push_back_reserved.ensures.items)
-          (All-push (IsWithin asides) c.self.inside.parcels.items p c.self.invariant.0
-          (c.packed_write.ensures.within asides)),
+          (All-push (IsWithin asides) c.self.inside.parcels.items p c.self.invariant.0 (c.packed_write.ensures.within asides)),
       grind (arith, common_steps),
       grind (arith, common_steps),
     )
@@ -27,7 +26,6 @@ returns-clause-messages c =
     let p = c.packed_write.result in
     let t = c.args.like.now in
     let m : Message = record (message_of t) { payload = Write (cell_of c.args.cell) (whole c.args.value) (tag_in t) } in
-    messages-more asides asides c.self.inside.parcels.items c.push_back_reserved.new.self.items p m (λ q w. (w, refl))
-    c.self.invariant.0
+    messages-more asides asides c.self.inside.parcels.items c.push_back_reserved.new.self.items p m (λ q w. (w, refl)) c.self.invariant.0
     (c.packed_write.ensures.is asides) c.push_back_reserved.ensures.items
     ∙ ap (λ v. v.messages ++ m ∷ []) c.self.view_is

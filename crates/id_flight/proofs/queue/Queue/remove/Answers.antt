@@ -9,9 +9,7 @@ use Rattle.id_flight.proofs.queue.Queue.remove.Goals as goal
 pub invariant_of-self-else-remove : goal.invariant_of-self-else-remove
 invariant_of-self-else-remove c =
     let q = c.self.inside in
-    let all =
-    all-removed (IsWithin q.asides.items) q.parcels.items c.args.position (grind (arith, common_steps))
-    c.self.invariant.0 in
+    let all = all-removed (IsWithin q.asides.items) q.parcels.items c.args.position (grind (arith, common_steps)) c.self.invariant.0 in
     grind (arith, common_steps)
 
 pub returns-else-remove-clause-messages : goal.returns-else-remove-clause-messages

@@ -17,5 +17,4 @@ returns-in-Some-clause-cause c = grind (arith, common_steps)
 
 -- the instruction that is told has a destination that is no port
 pub returns-in-Some-clause-accepts : goal.returns-in-Some-clause-accepts
-returns-in-Some-clause-accepts c =
-    (λ e. absurd (false≢true e), λ all. absurd (grind (arith, elements, c.in-Some.ensures.bad)))
+returns-in-Some-clause-accepts c = (λ e. absurd (false≢true e), λ all. absurd (grind (arith, elements, c.in-Some.ensures.bad)))

@@ -4,15 +4,12 @@ use Rattle.id_match.proofs.FrontLemmas.{clear_first, clear_second, clear_none, n
 use Rattle.id_match.proofs.front.Pair.clear.Goals as goal
 
 pub returns-then-holds-clause-put : goal.returns-then-holds-clause-put
-returns-then-holds-clause-put c =
-    λ single. clear_first c.args.self.now c.args.tag _ single (some_from_test _ (sym c.if-holds.ensures)) refl
+returns-then-holds-clause-put c = λ single. clear_first c.args.self.now c.args.tag _ single (some_from_test _ (sym c.if-holds.ensures)) refl
 
 pub returns-then-holds-2-clause-put : goal.returns-then-holds-2-clause-put
-returns-then-holds-2-clause-put c =
-    λ single. clear_second c.args.self.now c.args.tag _ (none_from_test _ (sym c.if-holds.ensures))
+returns-then-holds-2-clause-put c = λ single. clear_second c.args.self.now c.args.tag _ (none_from_test _ (sym c.if-holds.ensures))
     (some_from_test _ (sym c.if-holds-2.ensures)) refl
 
 pub returns-else-holds-2-clause-put : goal.returns-else-holds-2-clause-put
-returns-else-holds-2-clause-put c =
-    λ single. clear_none c.args.self.now c.args.tag (none_from_test _ (sym c.if-holds.ensures))
+returns-else-holds-2-clause-put c = λ single. clear_none c.args.self.now c.args.tag (none_from_test _ (sym c.if-holds.ensures))
     (none_from_test _ (sym c.if-holds-2.ensures))

@@ -12,10 +12,8 @@ pub returns-in_default-clause-sets : goal.returns-in_default-clause-sets
 returns-in_default-clause-sets c =
     let none : lookup (nat_eq c.args.instr) c.args.self.now.halves.items ≡ None = c.in_default.ensures.none refl in
     subst (λ l. Sets c.args.self.now.halves.items l c.args.instr
-    (half_after (lookup (nat_eq c.args.instr) c.args.self.now.halves.items) c.args.half.port c.args.half.value))
-    (sym c.in_ok-push.ensures.items)
-    (subst (λ o. Sets c.args.self.now.halves.items (c.args.self.now.halves.items ++ (c.args.instr, c.args.half) ∷ [])
-    c.args.instr
+    (half_after (lookup (nat_eq c.args.instr) c.args.self.now.halves.items) c.args.half.port c.args.half.value)) (sym c.in_ok-push.ensures.items)
+    (subst (λ o. Sets c.args.self.now.halves.items (c.args.self.now.halves.items ++ (c.args.instr, c.args.half) ∷ []) c.args.instr
     (half_after o c.args.half.port c.args.half.value)) (sym none)
     (sets_push c.args.self.now.halves.items c.args.instr c.args.half none))
 
@@ -27,11 +25,9 @@ returns-in-Some-leaving-clause-sets c =
     let none : half_after (lookup (nat_eq c.args.instr) p) c.args.half.port c.args.half.value ≡ None =
     gone _ c.index.result.now.1 c.args.half.port c.args.half.value was
     (apart_ports c.index.result.now.1.port c.args.half.port (sym c.if-eq.ensures)) in
-    subst (λ a. Sets p c.swap_remove.new.self.items c.args.instr
-    (after_said a c.args.half (lookup (nat_eq c.args.instr) p)))
+    subst (λ a. Sets p c.swap_remove.new.self.items c.args.instr (after_said a c.args.half (lookup (nat_eq c.args.instr) p)))
     (sym (c.in-Some-leaving.ensures.partner c.args.half))
     (subst (λ o. Sets p c.swap_remove.new.self.items c.args.instr o) (sym none)
     (sets_taken p c.in-Some.at c.swap_remove.result c.swap_remove.new.self.items c.args.instr c.in-Some.ensures.within
     c.swap_remove.ensures.value
-    (ap (λ x. x.0) c.swap_remove.ensures.value ∙ (c.in-Some.ensures.found c.swap_remove.result).0)
-    c.swap_remove.ensures.items))
+    (ap (λ x. x.0) c.swap_remove.ensures.value ∙ (c.in-Some.ensures.found c.swap_remove.result).0) c.swap_remove.ensures.items))

@@ -10,10 +10,8 @@ pub returns : goal.returns
 returns c = record {
   items =
       entries_of-from_entries (rear_entries c.self.inside.keys.entries c.self.inside.frames) _
-      (distinct_rear c.self.inside.frames c.self.inside.keys.entries c.self.invariant.0.unique
-      c.self.invariant.0.single)
-      (subst (λ l. IsPermutation l c.sort_by_tag.new.entries.items) c.in_ok-entries.ensures
-      c.sort_by_tag.ensures.permutation)
+      (distinct_rear c.self.inside.frames c.self.inside.keys.entries c.self.invariant.0.unique c.self.invariant.0.single)
+      (subst (λ l. IsPermutation l c.sort_by_tag.new.entries.items) c.in_ok-entries.ensures c.sort_by_tag.ensures.permutation)
       c.sort_by_tag.ensures.sorted
       ∙ ap entries_of c.self.view_is;
 }

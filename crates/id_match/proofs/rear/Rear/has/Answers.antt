@@ -9,5 +9,4 @@ pub returns : goal.returns
 returns c =
     c.has_behind.ensures
     ∙ ap is_some (sym (lookup-rear c.self.inside.frames c.self.inside.keys.entries c.args.tag c.self.invariant.0.unique)
-    ∙ sym (lookup-entries (rear_entries c.self.inside.keys.entries c.self.inside.frames) c.args.self.now c.self.view_is
-    c.args.tag))
+    ∙ sym (lookup-entries (rear_entries c.self.inside.keys.entries c.self.inside.frames) c.args.self.now c.self.view_is c.args.tag))

@@ -13,6 +13,5 @@ returns c =
     if_ok c.listed.result
     (λ l is t. ap (λ es. lookup (same_tag t) (map half_entry es)) is
     ∙ ap (lookup (same_tag t)) (half_back (rear_entries c.self.inside.keys.entries c.self.inside.frames))
-    ∙ sym (lookup-entries (rear_entries c.self.inside.keys.entries c.self.inside.frames) c.args.self.now c.self.view_is
-    t))
+    ∙ sym (lookup-entries (rear_entries c.self.inside.keys.entries c.self.inside.frames) c.args.self.now c.self.view_is t))
     c.listed.ensures

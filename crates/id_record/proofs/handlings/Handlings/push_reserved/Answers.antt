@@ -10,8 +10,7 @@ pub returns-clause-items : goal.returns-clause-items
 returns-clause-items c =
     let t = c.self.inside in
     let made = c.short_for-short in
-    told-more IsThere handled_of t.asides.items made.new.asides.items t.shorts.items c.push_reserved.new.self.items
-    made.result c.args.event.now
+    told-more IsThere handled_of t.asides.items made.new.asides.items t.shorts.items c.push_reserved.new.self.items made.result c.args.event.now
     made.ensures.others c.self.invariant made.ensures.is c.push_reserved.ensures.items
     ∙ ap (λ v. v.items ++ c.args.event.now ∷ []) c.self.view_is
 
@@ -22,5 +21,4 @@ invariant_of-self c =
     let more = made.new.asides.items in
     subst (λ ss. All (IsThere more) ss) (sym c.push_reserved.ensures.items)
     (All-push (IsThere more) t.shorts.items made.result
-    (all-kept IsThere handled_of t.asides.items more t.shorts.items made.ensures.others c.self.invariant)
-    made.ensures.within)
+    (all-kept IsThere handled_of t.asides.items more t.shorts.items made.ensures.others c.self.invariant) made.ensures.within)

@@ -13,5 +13,4 @@ pub returns-clause-events : goal.returns-clause-events
 returns-clause-events c =
     let r = c.self.inside in
     rw c.push.ensures
-    (events_from-replies r.graph.now r.element r.replies (c.args.reply ∷ []) 0 r.handled c.self.invariant.there
-    ∙ ap (λ v. v.events) c.self.view_is)
+    (events_from-replies r.graph.now r.element r.replies (c.args.reply ∷ []) 0 r.handled c.self.invariant.there ∙ ap (λ v. v.events) c.self.view_is)

@@ -22,8 +22,6 @@ returns c =
     let r = c.self.inside in
     let k = c.args.position in
     let all : keeps_all r.kept.keeps ≡ true = ap keeps_all (ap (λ v. v.keeps) c.self.view_is ∙ c.requires.keeps) in
-    let there : slice_get r.handled k ≡ Some c.event.result =
-    sym (ap (λ hs. slice_get hs k) (c.self.invariant.events all)) ∙ c.event.ensures in
+    let there : slice_get r.handled k ≡ Some c.event.result = sym (ap (λ hs. slice_get hs k) (c.self.invariant.events all)) ∙ c.event.ensures in
     ap (λ v. option_map (λ e. e.message.payload) (slice_get v.events k)) (sym c.self.view_is)
-    ∙ ap (option_map (λ e. e.message.payload))
-    (events_from-get r.graph.now r.element r.replies 0 r.handled k c.event.result there)
+    ∙ ap (option_map (λ e. e.message.payload)) (events_from-get r.graph.now r.element r.replies 0 r.handled k c.event.result there)

@@ -11,14 +11,10 @@ pub invariant_of-self : goal.invariant_of-self
 invariant_of-self c =
     let r = c.self.inside in
     let h = cell_event c.args.event in
-    let there : HasThere r.replies h =
-    subst (λ ts. AreThere ts (cell_event c.args.event).replies) (sym (ap (λ v. v.replies) c.self.view_is))
-    c.requires.replies in
-    let little : r.kept.keeps ≡ Tellings =
-    ap (λ v. v.keeps) c.self.view_is ∙ c.keeps_little.ensures c.if-keeps_little.true in
+    let there : HasThere r.replies h = subst (λ ts. AreThere ts (cell_event c.args.event).replies) (sym (ap (λ v. v.replies) c.self.view_is)) c.requires.replies in
+    let little : r.kept.keeps ≡ Tellings = ap (λ v. v.keeps) c.self.view_is ∙ c.keeps_little.ensures c.if-keeps_little.true in
     rw (c.push.ensures, c.cell_handled.ensures, c.pass.ensures)
-    (AreKept-pass r.graph.now r.element r.replies r.handled r.kept h c.self.invariant there little
-    (cell_event-silent c.args.event) refl)
+    (AreKept-pass r.graph.now r.element r.replies r.handled r.kept h c.self.invariant there little (cell_event-silent c.args.event) refl)
 
 pub returns-then-keeps_little : goal.returns-then-keeps_little
 returns-then-keeps_little c =

@@ -12,11 +12,9 @@ invariant_of-self c =
     let r = c.self.inside in
     let h = plain_firing c.args.event in
     let there : HasThere r.replies h = omega arith in
-    let little : r.kept.keeps ≡ Tellings =
-    ap (λ v. v.keeps) c.self.view_is ∙ c.keeps_little.ensures c.if-keeps_little.true in
+    let little : r.kept.keeps ≡ Tellings = ap (λ v. v.keeps) c.self.view_is ∙ c.keeps_little.ensures c.if-keeps_little.true in
     rw (c.push.ensures, c.plain_handled.ensures, c.pass.ensures)
-    (AreKept-pass r.graph.now r.element r.replies r.handled r.kept h c.self.invariant there little
-    (plain-silent c.args.event c.requires.makes_none (not_zero c.args.event.token.now.instr c.if-event-ne0.true)) refl)
+    (AreKept-pass r.graph.now r.element r.replies r.handled r.kept h c.self.invariant there little (plain-silent c.args.event c.requires.makes_none (not_zero c.args.event.token.now.instr c.if-event-ne0.true)) refl)
 
 pub returns-then-event-ne0 : goal.returns-then-event-ne0
 returns-then-event-ne0 c =

@@ -9,12 +9,7 @@ returns c =
     let o = c.self.inside in
     let fired = sent o.op o.dests.now o.tag o.fired in
     let whole : c.count_sent.result + length o.readers.now ≡ length (fired ++ replies o.value o.readers.now) =
-    omega (
-      arith,
-      length-append fired (replies o.value o.readers.now),
-      length-replies o.value o.readers.now,
-      c.count_sent.ensures,
-    ) in
+    omega (arith, length-append fired (replies o.value o.readers.now), length-replies o.value o.readers.now, c.count_sent.ensures) in
     whole
-    ∙ sym (length-numbered o.envelope.number o.envelope.position o.envelope.stamp 0
-    (fired ++ replies o.value o.readers.now)) ∙ ap length c.self.view_is
+    ∙ sym (length-numbered o.envelope.number o.envelope.position o.envelope.stamp 0 (fired ++ replies o.value o.readers.now))
+    ∙ ap length c.self.view_is

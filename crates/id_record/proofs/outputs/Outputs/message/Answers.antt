@@ -2,8 +2,7 @@
 use Rattle.std.proofs.Common.{◌≡◌, ◌+◌, ◌-◌, ◌++◌, length, length-append, ap, sym, ◌∙◌, Some, arith}
 use Rattle.std.specs.Prelude.{slice_get}
 use Rattle.id_record.specs.Sends.{replies, sent}
-use Rattle.id_record.proofs.SendsLemmas.{get-before, get-behind, length-numbered, length-replies, numbered-get}
-use Rattle.id_record.proofs.SendsLemmas.{numbered_as}
+use Rattle.id_record.proofs.SendsLemmas.{get-before, get-behind, length-numbered, length-replies, numbered-get, numbered_as}
 use Rattle.id_record.proofs.outputs.Outputs.message.Goals as goal
 use Rattle.id_record.proofs.outputs.Outputs.message.Goals.{then-number-fired, else-number-fired}
 
@@ -34,8 +33,7 @@ returns c =
     let behind = replies o.value o.readers.now in
     let said : slice_get (fired ++ behind) c.args.number ≡ Some c.if-number-fired.said =
     elim c.if-number-fired.branch [
-      | then-number-fired w ↦ get-before fired behind c.args.number c.if-number-fired.said (w.payload-said.ensures
-          ∙ ap (λ x. Some x) (sym w.said-is))
+      | then-number-fired w ↦ get-before fired behind c.args.number c.if-number-fired.said (w.payload-said.ensures ∙ ap (λ x. Some x) (sym w.said-is))
       | else-number-fired w ↦
           let at : c.args.number ≡ length fired + (c.args.number - c.count_sent-fired.result) = omega
           (arith, w.if-number-fired.false, c.count_sent-fired.ensures) in

@@ -5,6 +5,4 @@ use Rattle.id_table.specs.Making.{parts}
 use Rattle.id_table.proofs.maker.Maker.add_params.Given as goal
 
 abbrev pub invariant-loop-param : goal.invariant-loop-param
-invariant-loop-param l =
-    add l.stand (parts l.self) (params_tree (drop l.param-index l.params))
-    ≡ add l.stand (parts l.initial.self) (params_tree l.params)
+invariant-loop-param l = add l.stand (parts l.self) (params_tree (drop l.param-index l.params)) ≡ add l.stand (parts l.initial.self) (params_tree l.params)

@@ -12,12 +12,10 @@ those c = c.as_slice-starts.ensures.value ∙ c.self.invariant.1 ∙ ap line_sta
 pub starts_near-line-requires : goal.starts_near-line-requires
 starts_near-line-requires c = subst IsNonDecreasing (sym (those c)) (line_starts_rise c.args.self.now)
 
-there : (c : After-starts_near-line)
-    → IsFound c.args.self.now c.as_slice-starts.result.now c.args.at c.starts_near-line.result
+there : (c : After-starts_near-line) → IsFound c.args.self.now c.as_slice-starts.result.now c.args.at c.starts_near-line.result
 there c =
     found c.args.self.now c.as_slice-starts.result.now c.args.at c.starts_near-line.result
-    (c.as_slice-starts.ensures.value ∙ c.self.invariant.1 ∙ ap line_starts c.self.view_is) c.requires
-    c.starts_near-line.ensures
+    (c.as_slice-starts.ensures.value ∙ c.self.invariant.1 ∙ ap line_starts c.self.view_is) c.requires c.starts_near-line.ensures
 
 -- the text is short, so the line fits
 short : (c : After-starts_near-line) → c.starts_near-line.result ≤ 1048577

@@ -9,8 +9,7 @@ use Rattle.id_text.specs.declared.token.Symbol.TheVariants.{Minus, LeftBracket}
 use Rattle.id_text.specs.declared.token.Keyword.TheVariants.{If, Not}
 use Rattle.id_grammar.specs.Readers.{first_kind, may_deny, IsBracket}
 use Rattle.id_grammar.proofs.ReaderLemmas.{IsRead-then, Rises-grows, Rises-stunts, Rises-ends, Rises-operand}
-use Rattle.id_grammar.proofs.ReaderLemmas.{Operand-fails, Rises-denied, Denied-fails, operator-at, operator-begins}
-use Rattle.id_grammar.proofs.ReaderLemmas.{Right-deep}
+use Rattle.id_grammar.proofs.ReaderLemmas.{Operand-fails, Rises-denied, Denied-fails, operator-at, operator-begins, Right-deep}
 use Rattle.id_grammar.proofs.ReaderLemmas.{Right-fails, Right-grows, At-conditional, At-parens, At-part, At-enclosed}
 use Rattle.id_grammar.proofs.ReaderLemmas.{Leads-done, Leads-at, Fails-deep, Fails-part, Fails-enclosed}
 use Rattle.id_grammar.proofs.ReaderLemmas.{IsPrefix-begins, Prefix-deep, Prefix-fails, Prefix-leads, Encloses-done}
@@ -30,42 +29,33 @@ use Rattle.id_tree.proofs.reader.Reader.+expr.Goals as goal
 pub parse_expression-returns-else-begins_with : goal.parse_expression-returns-else-begins_with
 parse_expression-returns-else-begins_with t c =
     let is_not : first_kind c.args.self.tokens.list.now ≡ Key If → ⊥ = search rules in
-    MatchResult-weaker c.parse_grouped.result c.parse_grouped.ensures (λ x q. (q.0, Expression-leads is_not q.1))
-    (λ x q. Expression-fails is_not q)
+    MatchResult-weaker c.parse_grouped.result c.parse_grouped.ensures (λ x q. (q.0, Expression-leads is_not q.1)) (λ x q. Expression-fails is_not q)
 
 pub parse_conditional-returns-in-Err : goal.parse_conditional-returns-in-Err
 parse_conditional-returns-in-Err t c =
-    Fails-deep c.args.self.tokens.ends (opens_conditional c.requires.begins) _ _ c.in-Err.ensures.err
-    c.in-Err.ensures.deep
+    Fails-deep c.args.self.tokens.ends (opens_conditional c.requires.begins) _ _ c.in-Err.ensures.err c.in-Err.ensures.deep
 
 pub parse_conditional-returns-in-Err-parse_enclosed : goal.parse_conditional-returns-in-Err-parse_enclosed
 parse_conditional-returns-in-Err-parse_enclosed t c =
-    Fails-enclosed (At-conditional (c.in-Ok.ensures.whole (λ q. cc)) c.requires.begins c.in-Ok.ensures.fits)
-    c.in-Err-parse_enclosed.ensures
+    Fails-enclosed (At-conditional (c.in-Ok.ensures.whole (λ q. cc)) c.requires.begins c.in-Ok.ensures.fits) c.in-Err-parse_enclosed.ensures
 
 pub parse_conditional-returns-in-Err-parse_enclosed-2 : goal.parse_conditional-returns-in-Err-parse_enclosed-2
 parse_conditional-returns-in-Err-parse_enclosed-2 t c =
-    Fails-enclosed
-    (At-enclosed (At-conditional (c.in-Ok.ensures.whole (λ q. cc)) c.requires.begins c.in-Ok.ensures.fits)
+    Fails-enclosed (At-enclosed (At-conditional (c.in-Ok.ensures.whole (λ q. cc)) c.requires.begins c.in-Ok.ensures.fits)
     c.in-Ok-parse_enclosed.ensures.1) c.in-Err-parse_enclosed-2.ensures
 
 pub parse_conditional-returns-in-Err-parse_expression : goal.parse_conditional-returns-in-Err-parse_expression
 parse_conditional-returns-in-Err-parse_expression t c =
-    Fails-part
-    (At-enclosed (At-enclosed (At-conditional (c.in-Ok.ensures.whole (λ q. cc)) c.requires.begins c.in-Ok.ensures.fits)
+    Fails-part (At-enclosed (At-enclosed (At-conditional (c.in-Ok.ensures.whole (λ q. cc)) c.requires.begins c.in-Ok.ensures.fits)
     c.in-Ok-parse_enclosed.ensures.1) c.in-Ok-parse_enclosed-2.ensures.1) c.in-Err-parse_expression.ensures
 
 pub parse_conditional-returns : goal.parse_conditional-returns
 parse_conditional-returns t c =
-    MatchResult-whole c.conditional.result c.with_rest.result _ _ _ _ c.with_rest.ensures c.conditional.ensures
-    (λ x p s. rw s (
+    MatchResult-whole c.conditional.result c.with_rest.result _ _ _ _ c.with_rest.ensures c.conditional.ensures (λ x p s. rw s (
       IsRead-inside (c.in-Ok.ensures.whole (λ q. cc))
-          (IsRead-both (IsRead-both c.in-Ok-parse_enclosed.ensures.0 c.in-Ok-parse_enclosed-2.ensures.0)
-          c.in-Ok-parse_expression.ensures.0) p.0,
+          (IsRead-both (IsRead-both c.in-Ok-parse_enclosed.ensures.0 c.in-Ok-parse_enclosed-2.ensures.0) c.in-Ok-parse_expression.ensures.0) p.0,
       Leads-at p.1 (omega (arith, p.0))
-          (Leads-done
-          (At-part (At-enclosed
-          (At-enclosed (At-conditional (c.in-Ok.ensures.whole (λ q. cc)) c.requires.begins c.in-Ok.ensures.fits)
+          (Leads-done (At-part (At-enclosed (At-enclosed (At-conditional (c.in-Ok.ensures.whole (λ q. cc)) c.requires.begins c.in-Ok.ensures.fits)
           c.in-Ok-parse_enclosed.ensures.1) c.in-Ok-parse_enclosed-2.ensures.1) c.in-Ok-parse_expression.ensures.1)),
     ))
     (record { fails = λ K. tt })
@@ -79,15 +69,13 @@ pub parse_first-returns-then-denied : goal.parse_first-returns-then-denied
 parse_first-returns-then-denied t c =
     let is : may_deny c.args.level × (first_kind c.args.self.tokens.list.now ≡ Key Not) = search rules in
     MatchResult-weaker c.parse_prefixed.result c.parse_prefixed.ensures
-    (λ x q. (q.0, Rises-denied c.args.level c.args.denied c.if-denied.true is.0 q.1))
-    (λ x q. Denied-fails c.args.level is.0 q)
+    (λ x q. (q.0, Rises-denied c.args.level c.args.denied c.if-denied.true is.0 q.1)) (λ x q. Denied-fails c.args.level is.0 q)
 
 pub parse_first-returns-else-denied : goal.parse_first-returns-else-denied
 parse_first-returns-else-denied t c =
     let is_not : may_deny c.args.level × (first_kind c.args.self.tokens.list.now ≡ Key Not) → ⊥ = search rules in
     MatchResult-weaker c.parse_unary.result c.parse_unary.ensures
-    (λ x q. (q.0, Rises-operand c.args.level c.args.denied c.if-denied.false is_not q.1))
-    (λ x q. Operand-fails c.args.level is_not q)
+    (λ x q. (q.0, Rises-operand c.args.level c.args.denied c.if-denied.false is_not q.1)) (λ x q. Operand-fails c.args.level is_not q)
 
 pub parse_grouped-parse_right-requires : goal.parse_grouped-parse_right-requires
 parse_grouped-parse_right-requires t c =
@@ -100,9 +88,7 @@ parse_grouped-operators-init t c = (c.in-Ok.ensures.0, rw c.open_first-inner.ens
 pub parse_grouped-operators-preserved : goal.parse_grouped-operators-preserved
 parse_grouped-operators-preserved t c = (
   IsRead-then c.operators.invariant.0 c.in-Ok-parse_right.ensures.0,
-  rw c.open_behind-inner.ensures
-      (Rises-grows c.operators.invariant.1 _ (sym c.operator_within.ensures ∙ c.in-Some.is)
-      c.in-Ok-parse_right.ensures.1),
+  rw c.open_behind-inner.ensures (Rises-grows c.operators.invariant.1 _ (sym c.operator_within.ensures ∙ c.in-Some.is) c.in-Ok-parse_right.ensures.1),
 )
 
 pub parse_grouped-returns-in-Err-parse_right : goal.parse_grouped-returns-in-Err-parse_right
@@ -115,21 +101,17 @@ parse_grouped-returns t c =
 
 pub parse_right-returns-in-Err : goal.parse_right-returns-in-Err
 parse_right-returns-in-Err t c =
-    Right-deep c.args.self.tokens.ends c.args.level c.args.op c.requires.operator _ _ _ _ c.in-Err.ensures.err
-    c.in-Err.ensures.deep
+    Right-deep c.args.self.tokens.ends c.args.level c.args.op c.requires.operator _ _ _ _ c.in-Err.ensures.err c.in-Err.ensures.deep
 
 pub parse_right-returns-in-Err-parse_operand : goal.parse_right-returns-in-Err-parse_operand
 parse_right-returns-in-Err-parse_operand t c =
-    Right-fails (c.in-Ok.ensures.whole (operator-begins c.args.level c.requires.operator)) c.args.level c.args.op
-    c.requires.operator _ _ _ c.in-Ok.ensures.fits c.in-Err-parse_operand.ensures
+    Right-fails (c.in-Ok.ensures.whole (operator-begins c.args.level c.requires.operator)) c.args.level c.args.op c.requires.operator _ _ _ c.in-Ok.ensures.fits c.in-Err-parse_operand.ensures
 
 pub parse_right-returns : goal.parse_right-returns
 parse_right-returns t c =
     MatchResult-whole c.binary.result c.with_rest.result _ _ _ _ c.with_rest.ensures c.binary.ensures (λ x p s. rw s (
-      IsRead-beside c.args.left.height (c.in-Ok.ensures.whole (operator-begins c.args.level c.requires.operator))
-          c.in-Ok.ensures.fits c.in-Ok-parse_operand.ensures.0 p.0,
-      Right-grows (c.in-Ok.ensures.whole (operator-begins c.args.level c.requires.operator)) c.args.level c.args.op
-          c.requires.operator _ _ _
+      IsRead-beside c.args.left.height (c.in-Ok.ensures.whole (operator-begins c.args.level c.requires.operator)) c.in-Ok.ensures.fits c.in-Ok-parse_operand.ensures.0 p.0,
+      Right-grows (c.in-Ok.ensures.whole (operator-begins c.args.level c.requires.operator)) c.args.level c.args.op c.requires.operator _ _ _
           c.in-Ok.ensures.fits c.in-Ok-parse_operand.ensures.1 p.1 p.0,
     ))
     (record { fails = λ K. tt })
@@ -142,8 +124,7 @@ parse_negation-parse_prefixed-requires t c =
 pub parse_negation-returns-else-begins_with : goal.parse_negation-returns-else-begins_with
 parse_negation-returns-else-begins_with t c =
     let is_not : first_kind c.args.self.tokens.list.now ≡ Key Not → ⊥ = search rules in
-    MatchResult-weaker c.parse_grouped.result c.parse_grouped.ensures (λ x q. (q.0, Negation-leads is_not q.1))
-    (λ x q. Negation-fails is_not q)
+    MatchResult-weaker c.parse_grouped.result c.parse_grouped.ensures (λ x q. (q.0, Negation-leads is_not q.1)) (λ x q. Negation-fails is_not q)
 
 pub parse_prefixed-unary-requires : goal.parse_prefixed-unary-requires
 parse_prefixed-unary-requires t c =
@@ -151,21 +132,17 @@ parse_prefixed-unary-requires t c =
 
 pub parse_prefixed-returns-in-Err : goal.parse_prefixed-returns-in-Err
 parse_prefixed-returns-in-Err t c =
-    Prefix-deep c.args.op _ c.args.level c.args.self.tokens.ends c.requires.prefix _ c.in-Err.ensures.err
-    c.in-Err.ensures.deep
+    Prefix-deep c.args.op _ c.args.level c.args.self.tokens.ends c.requires.prefix _ c.in-Err.ensures.err c.in-Err.ensures.deep
 
 pub parse_prefixed-returns-in-Err-parse_operand : goal.parse_prefixed-returns-in-Err-parse_operand
 parse_prefixed-returns-in-Err-parse_operand t c =
-    Prefix-fails c.args.op _ (c.in-Ok.ensures.whole (IsPrefix-begins c.args.op c.args.level c.requires.prefix))
-    c.args.level c.requires.prefix c.in-Ok.ensures.fits c.in-Err-parse_operand.ensures
+    Prefix-fails c.args.op _ (c.in-Ok.ensures.whole (IsPrefix-begins c.args.op c.args.level c.requires.prefix)) c.args.level c.requires.prefix c.in-Ok.ensures.fits c.in-Err-parse_operand.ensures
 
 pub parse_prefixed-returns : goal.parse_prefixed-returns
 parse_prefixed-returns t c =
     MatchResult-whole c.unary.result c.with_rest.result _ _ _ _ c.with_rest.ensures c.unary.ensures (λ x p s. rw s (
-      IsRead-inside (c.in-Ok.ensures.whole (IsPrefix-begins c.args.op c.args.level c.requires.prefix))
-          c.in-Ok-parse_operand.ensures.0 p.0,
-      Prefix-leads c.args.op _ (c.in-Ok.ensures.whole (IsPrefix-begins c.args.op c.args.level c.requires.prefix))
-          c.args.level c.requires.prefix c.in-Ok.ensures.fits
+      IsRead-inside (c.in-Ok.ensures.whole (IsPrefix-begins c.args.op c.args.level c.requires.prefix)) c.in-Ok-parse_operand.ensures.0 p.0,
+      Prefix-leads c.args.op _ (c.in-Ok.ensures.whole (IsPrefix-begins c.args.op c.args.level c.requires.prefix)) c.args.level c.requires.prefix c.in-Ok.ensures.fits
           c.in-Ok-parse_operand.ensures.1 p.1 p.0,
     ))
     (record { fails = λ K. tt })
@@ -177,9 +154,7 @@ parse_unary-returns-then-not-begins_with_sign t c =
       IsRead-token (c.split.ensures.whole (λ q. cc)) (omega (arith, c.args.self.room)) c.number.ensures.height,
       Unary-number c.in-Number.value is
           (Leads-at c.number.ensures.tree (omega (arith, c.number.ensures.height))
-          (Leads-done
-          (At-opens (c.split.ensures.whole (λ q. cc)) (opens_number c.in-Number.value is) c.args.self.depth
-          (omega (arith, c.args.self.room)))))
+          (Leads-done (At-opens (c.split.ensures.whole (λ q. cc)) (opens_number c.in-Number.value is) c.args.self.depth (omega (arith, c.args.self.room)))))
           no_bracket,
     )
 
@@ -189,10 +164,8 @@ parse_unary-returns-then-not-begins_with_bracket t c =
     let no_bracket : IsBracket (first_kind c.split.result.1.list.now) → ⊥ = search rules in (
       IsRead-token (c.split.ensures.whole (λ q. cc)) (omega (arith, c.args.self.room)) c.name-whole.ensures.height,
       Unary-name c.in-Ok.found is
-          (Leads-named (c.split.ensures.whole (λ q. cc)) c.args.self.depth (omega (arith, c.args.self.room))
-          c.in-Ok.found is
-          (Applies-name c.args.self.depth (λ q. no_bracket (inl q)) c.name-whole.ensures.tree
-          c.name-whole.ensures.height))
+          (Leads-named (c.split.ensures.whole (λ q. cc)) c.args.self.depth (omega (arith, c.args.self.room)) c.in-Ok.found is
+          (Applies-name c.args.self.depth (λ q. no_bracket (inl q)) c.name-whole.ensures.tree c.name-whole.ensures.height))
           (λ q. no_bracket (inr q)),
     )
 
@@ -204,8 +177,7 @@ parse_signed-parse_prefixed-requires t c =
 pub parse_signed-returns-else-begins_with_sign : goal.parse_signed-returns-else-begins_with_sign
 parse_signed-returns-else-begins_with_sign t c =
     let is_not : first_kind c.args.self.tokens.list.now ≡ Sign Minus → ⊥ = search rules in
-    MatchResult-weaker c.parse_postfix.result c.parse_postfix.ensures (λ x q. (q.0, Unary-leads is_not q.1))
-    (λ x q. Unary-fails is_not q)
+    MatchResult-weaker c.parse_postfix.result c.parse_postfix.ensures (λ x q. (q.0, Unary-leads is_not q.1)) (λ x q. Unary-fails is_not q)
 
 pub parse_postfix-parse_fetch-requires : goal.parse_postfix-parse_fetch-requires
 parse_postfix-parse_fetch-requires t c =
@@ -220,10 +192,8 @@ pub parse_postfix-fetches-init : goal.parse_postfix-fetches-init
 parse_postfix-fetches-init t c = (c.in-Ok.ensures.0, Pointed-atom c.in-Ok.ensures.1)
 
 pub parse_postfix-fetches-preserved : goal.parse_postfix-fetches-preserved
-parse_postfix-fetches-preserved t c = (
-  IsRead-then c.fetches.invariant.0 c.in-Ok-parse_fetch.ensures.0,
-  Pointed-fetch c.fetches.invariant.1 c.in-Ok-parse_fetch.ensures.1,
-)
+parse_postfix-fetches-preserved t c =
+    (IsRead-then c.fetches.invariant.0 c.in-Ok-parse_fetch.ensures.0, Pointed-fetch c.fetches.invariant.1 c.in-Ok-parse_fetch.ensures.1)
 
 pub parse_postfix-returns-in-Err-parse_fetch : goal.parse_postfix-returns-in-Err-parse_fetch
 parse_postfix-returns-in-Err-parse_fetch t c =
@@ -240,16 +210,13 @@ parse_fetch-returns-in-Err t c =
 
 pub parse_fetch-returns-in-Err-parse_enclosed : goal.parse_fetch-returns-in-Err-parse_enclosed
 parse_fetch-returns-in-Err-parse_enclosed t c =
-    Fetch-fails (c.in-Ok.ensures.whole (λ q. cc)) c.requires.begins _ _ _ c.in-Ok.ensures.fits
-    c.in-Err-parse_enclosed.ensures
+    Fetch-fails (c.in-Ok.ensures.whole (λ q. cc)) c.requires.begins _ _ _ c.in-Ok.ensures.fits c.in-Err-parse_enclosed.ensures
 
 pub parse_fetch-returns : goal.parse_fetch-returns
 parse_fetch-returns t c =
     MatchResult-whole c.fetch.result c.with_rest.result _ _ _ _ c.with_rest.ensures c.fetch.ensures (λ x p s. rw s (
-      IsRead-beside c.args.target.height (c.in-Ok.ensures.whole (λ q. cc)) c.in-Ok.ensures.fits
-          c.in-Ok-parse_enclosed.ensures.0 p.0,
-      Fetch-indexes (c.in-Ok.ensures.whole (λ q. cc)) c.requires.begins _ _ _ c.in-Ok.ensures.fits
-          c.in-Ok-parse_enclosed.ensures.1 p.1 p.0,
+      IsRead-beside c.args.target.height (c.in-Ok.ensures.whole (λ q. cc)) c.in-Ok.ensures.fits c.in-Ok-parse_enclosed.ensures.0 p.0,
+      Fetch-indexes (c.in-Ok.ensures.whole (λ q. cc)) c.requires.begins _ _ _ c.in-Ok.ensures.fits c.in-Ok-parse_enclosed.ensures.1 p.1 p.0,
     ))
     (record { fails = λ K. tt })
 
@@ -259,31 +226,21 @@ parse_array-returns-in-Err t c =
 
 pub parse_array-returns-in-Err-parse_between : goal.parse_array-returns-in-Err-parse_between
 parse_array-returns-in-Err-parse_between t c =
-    Fails-surrounded
-    (At-bounds c.begins_with-nested.result (c.in-Ok.ensures.whole (λ q. cc)) c.requires.begins c.in-Ok.ensures.fits
-    c.begins_with-nested.ensures c.behind_array-tokens.ensures.word c.behind_array-tokens.ensures.none)
-    c.in-Err-parse_between.ensures
+    Fails-surrounded (At-bounds c.begins_with-nested.result (c.in-Ok.ensures.whole (λ q. cc)) c.requires.begins c.in-Ok.ensures.fits
+    c.begins_with-nested.ensures c.behind_array-tokens.ensures.word c.behind_array-tokens.ensures.none) c.in-Err-parse_between.ensures
 
 pub parse_array-returns-in-Err-parse_enclosed : goal.parse_array-returns-in-Err-parse_enclosed
 parse_array-returns-in-Err-parse_enclosed t c =
-    Fails-enclosed
-    (At-surrounded
-    (At-bounds c.begins_with-nested.result (c.in-Ok.ensures.whole (λ q. cc)) c.requires.begins c.in-Ok.ensures.fits
+    Fails-enclosed (At-surrounded (At-bounds c.begins_with-nested.result (c.in-Ok.ensures.whole (λ q. cc)) c.requires.begins c.in-Ok.ensures.fits
     c.begins_with-nested.ensures c.behind_array-tokens.ensures.word c.behind_array-tokens.ensures.none)
     c.in-Ok-parse_between.ensures.1) c.in-Err-parse_enclosed.ensures
 
 pub parse_array-returns : goal.parse_array-returns
 parse_array-returns t c =
     MatchResult-whole c.array.result c.with_rest.result _ _ _ _ c.with_rest.ensures c.array.ensures (λ x p s. rw s (
-      IsRead-inside (c.in-Ok.ensures.whole (λ q. cc))
-          (IsRead-later c.behind_array-tokens.ensures.shorter
-          (IsRead-both c.in-Ok-parse_between.ensures.0 c.in-Ok-parse_enclosed.ensures.0)) p.0,
+      IsRead-inside (c.in-Ok.ensures.whole (λ q. cc)) (IsRead-later c.behind_array-tokens.ensures.shorter (IsRead-both c.in-Ok-parse_between.ensures.0 c.in-Ok-parse_enclosed.ensures.0)) p.0,
       Leads-at p.1 (omega (arith, p.0))
-          (Leads-done
-          (At-enclosed
-          (At-surrounded
-          (At-bounds c.begins_with-nested.result (c.in-Ok.ensures.whole (λ q. cc)) c.requires.begins
-          c.in-Ok.ensures.fits
+          (Leads-done (At-enclosed (At-surrounded (At-bounds c.begins_with-nested.result (c.in-Ok.ensures.whole (λ q. cc)) c.requires.begins c.in-Ok.ensures.fits
           c.begins_with-nested.ensures c.behind_array-tokens.ensures.word c.behind_array-tokens.ensures.none)
           c.in-Ok-parse_between.ensures.1) c.in-Ok-parse_enclosed.ensures.1)),
     ))
@@ -299,15 +256,13 @@ parse_parens-returns-in-Err t c =
 
 pub parse_parens-returns-in-Err-parse_enclosed : goal.parse_parens-returns-in-Err-parse_enclosed
 parse_parens-returns-in-Err-parse_enclosed t c =
-    Fails-enclosed (At-parens (c.in-Ok.ensures.whole (λ q. cc)) c.requires.begins c.in-Ok.ensures.fits)
-    c.in-Err-parse_enclosed.ensures
+    Fails-enclosed (At-parens (c.in-Ok.ensures.whole (λ q. cc)) c.requires.begins c.in-Ok.ensures.fits) c.in-Err-parse_enclosed.ensures
 
 pub parse_parens-returns : goal.parse_parens-returns
 parse_parens-returns t c = (
   IsRead-inside (c.in-Ok.ensures.whole (λ q. cc)) c.in-Ok-parse_enclosed.ensures.0 refl,
   Leads-at refl (omega arith) (Leads-done
-      (At-enclosed (At-parens (c.in-Ok.ensures.whole (λ q. cc)) c.requires.begins c.in-Ok.ensures.fits)
-      c.in-Ok-parse_enclosed.ensures.1)),
+      (At-enclosed (At-parens (c.in-Ok.ensures.whole (λ q. cc)) c.requires.begins c.in-Ok.ensures.fits) c.in-Ok-parse_enclosed.ensures.1)),
 )
 
 pub parse_enclosed-returns-in-Err : goal.parse_enclosed-returns-in-Err
@@ -319,10 +274,8 @@ parse_enclosed-returns-in-Err-expect_word t c =
     Exposes-word c.in-Ok.ensures.1 c.in-Err-expect_word.ensures.err
 
 pub parse_enclosed-returns : goal.parse_enclosed-returns
-parse_enclosed-returns t c = (
-  IsRead-closed c.in-Ok.ensures.0 c.in-Ok-expect_word.ensures.behind,
-  Encloses-done c.in-Ok.ensures.1 c.in-Ok-expect_word.ensures.ok,
-)
+parse_enclosed-returns t c =
+    (IsRead-closed c.in-Ok.ensures.0 c.in-Ok-expect_word.ensures.behind, Encloses-done c.in-Ok.ensures.1 c.in-Ok-expect_word.ensures.ok)
 
 pub parse_between-returns-in-Err : goal.parse_between-returns-in-Err
 parse_between-returns-in-Err t c =
@@ -331,8 +284,7 @@ parse_between-returns-in-Err t c =
 pub parse_between-returns : goal.parse_between-returns
 parse_between-returns t c =
     MatchResult-weaker c.parse_enclosed.result c.parse_enclosed.ensures
-    (λ x q. (IsRead-behind c.in-Ok.ensures.behind q.0, Surrounds-done c.in-Ok.ensures.ok q.1))
-    (λ x q. Bares-part c.in-Ok.ensures.ok q)
+    (λ x q. (IsRead-behind c.in-Ok.ensures.behind q.0, Surrounds-done c.in-Ok.ensures.ok q.1)) (λ x q. Bares-part c.in-Ok.ensures.ok q)
 
 pub parse_block-returns-in-Err : goal.parse_block-returns-in-Err
 parse_block-returns-in-Err = Blocks.parse_block-returns-in-Err

@@ -98,9 +98,7 @@ decreases-parse_arguments l = (199 - l.self.depth) * 32 + 20
 
 -- arguments have come, and the call is open
 abbrev pub invariant-parse_some_arguments-arguments : goal.invariant-parse_some_arguments-arguments
-invariant-parse_some_arguments-arguments l =
-    HasRead l.fn.self l.rest l.args.height
-    × Hands (text_of l.fn.self) l.fn.self.depth l.rest.list.now l.args.list.items l.args.height
+invariant-parse_some_arguments-arguments l = HasRead l.fn.self l.rest l.args.height × Hands (text_of l.fn.self) l.fn.self.depth l.rest.list.now l.args.list.items l.args.height
 
 abbrev pub decreases-parse_some_arguments-arguments : goal.decreases-parse_some_arguments-arguments
 decreases-parse_some_arguments-arguments l = length l.rest.list.now
@@ -108,8 +106,7 @@ decreases-parse_some_arguments-arguments l = length l.rest.list.now
 -- what may be the target of a fetch has come
 abbrev pub invariant-parse_postfix-fetches : goal.invariant-parse_postfix-fetches
 invariant-parse_postfix-fetches l =
-    HasRead l.fn.self l.tokens l.target.height
-    × Pointed (text_of l.fn.self) l.fn.self.depth l.tokens.list.now (tree_of l.target.expr) l.target.height
+    HasRead l.fn.self l.tokens l.target.height × Pointed (text_of l.fn.self) l.fn.self.depth l.tokens.list.now (tree_of l.target.expr) l.target.height
 
 abbrev pub decreases-parse_postfix-fetches : goal.decreases-parse_postfix-fetches
 decreases-parse_postfix-fetches l = length l.tokens.list.now
@@ -117,16 +114,14 @@ decreases-parse_postfix-fetches l = length l.tokens.list.now
 -- an operand has come, and the levels round it are open
 abbrev pub invariant-parse_grouped-operators : goal.invariant-parse_grouped-operators
 invariant-parse_grouped-operators l =
-    HasRead l.fn.self l.tokens l.left.height
-    × Rises (text_of l.fn.self) l.level l.fn.self.depth l.inner l.tokens.list.now (tree_of l.left.expr) l.left.height
+    HasRead l.fn.self l.tokens l.left.height × Rises (text_of l.fn.self) l.level l.fn.self.depth l.inner l.tokens.list.now (tree_of l.left.expr) l.left.height
 
 abbrev pub decreases-parse_grouped-operators : goal.decreases-parse_grouped-operators
 decreases-parse_grouped-operators l = length l.tokens.list.now
 
 -- statements have come, and the block or the loop is open
 abbrev pub invariant-parse_statements-stmts : goal.invariant-parse_statements-stmts
-invariant-parse_statements-stmts l =
-    IsGathered (text_of l.fn.self) l.tokens.list.now l.fn.self.depth l.statements.height ×
+invariant-parse_statements-stmts l = IsGathered (text_of l.fn.self) l.tokens.list.now l.fn.self.depth l.statements.height ×
     Gathers (text_of l.fn.self) l.scope l.fn.self.depth l.tokens.list.now l.statements.list.items l.statements.height
 
 abbrev pub decreases-parse_statements-stmts : goal.decreases-parse_statements-stmts

@@ -20,8 +20,7 @@ parse_leaf-returns-in-Number t c = (
   IsRead-token (c.split.ensures.whole (λ q. cc)) (omega (arith, c.args.self.room)) c.number-whole.ensures.height,
   Leads-at c.number-whole.ensures.tree (omega (arith, c.number-whole.ensures.height))
       (Leads-done (At-opens (c.split.ensures.whole (λ q. cc))
-      (opens_number c.in-Number.value (c.split.ensures.kind ∙ c.in-Number.is)) c.args.self.depth
-      (omega (arith, c.args.self.room)))),
+      (opens_number c.in-Number.value (c.split.ensures.kind ∙ c.in-Number.is)) c.args.self.depth (omega (arith, c.args.self.room)))),
 )
 
 pub parse_leaf-returns-in-Some : goal.parse_leaf-returns-in-Some
@@ -30,17 +29,13 @@ parse_leaf-returns-in-Some t c = (
   Leads-at c.truth-whole.ensures.tree (omega (arith, c.truth-whole.ensures.height))
       (Leads-done (At-opens (c.split.ensures.whole (λ q. cc))
       (opens_truth c.in-Some.value
-      (ap (λ xs. truth_in (first_kind xs)) (c.split.ensures.whole (λ q. cc)) ∙ sym c.truth_of.ensures ∙ c.in-Some.is))
-      c.args.self.depth
+      (ap (λ xs. truth_in (first_kind xs)) (c.split.ensures.whole (λ q. cc)) ∙ sym c.truth_of.ensures ∙ c.in-Some.is)) c.args.self.depth
       (omega (arith, c.args.self.room)))),
 )
 
 pub parse_leaf-returns-in-None : goal.parse_leaf-returns-in-None
-parse_leaf-returns-in-None t c =
-    Atom-fails c.split.ensures.head.1 c.args.self.depth c.unexpected.result c.unexpected.ensures
-    (rw c.in-Key.is
-    (untrue c.in-Key.field-0 c.split.result.0.now.start (ap truth_in (sym c.in-Key.is) ∙ sym c.truth_of.ensures
-    ∙ c.in-None.is)
+parse_leaf-returns-in-None t c = Atom-fails c.split.ensures.head.1 c.args.self.depth c.unexpected.result c.unexpected.ensures
+    (rw c.in-Key.is (untrue c.in-Key.field-0 c.split.result.0.now.start (ap truth_in (sym c.in-Key.is) ∙ sym c.truth_of.ensures ∙ c.in-None.is)
     (λ q. c.requires.no_array (c.split.ensures.kind ∙ c.in-Key.is ∙ q))))
 
 pub parse_leaf-returns-in-Sign : goal.parse_leaf-returns-in-Sign
@@ -52,8 +47,7 @@ parse_leaf-returns-in-Sign t c =
 
 pub parse_leaf-returns-in-End : goal.parse_leaf-returns-in-End
 parse_leaf-returns-in-End t c =
-    Atom-fails c.split.ensures.head.1 c.args.self.depth c.unexpected-in-End.result c.unexpected-in-End.ensures
-    (rw c.in-End.is refl)
+    Atom-fails c.split.ensures.head.1 c.args.self.depth c.unexpected-in-End.result c.unexpected-in-End.ensures (rw c.in-End.is refl)
 
 pub parse_leaf-returns-in-Ok : goal.parse_leaf-returns-in-Ok
 parse_leaf-returns-in-Ok t c =
@@ -61,11 +55,9 @@ parse_leaf-returns-in-Ok t c =
     MatchResult-weaker c.parse_named.result c.parse_named.ensures
     (λ y q. (
       IsRead-named (c.split.ensures.whole (λ q. cc)) (q.0, q.1),
-      Leads-named (c.split.ensures.whole (λ q. cc)) c.args.self.depth (omega (arith, c.args.self.room)) c.in-Ok.found is
-          q.2,
+      Leads-named (c.split.ensures.whole (λ q. cc)) c.args.self.depth (omega (arith, c.args.self.room)) c.in-Ok.found is q.2,
     ))
-    (λ y q. Fails-named (c.split.ensures.whole (λ q. cc)) c.args.self.depth (omega (arith, c.args.self.room))
-    c.in-Ok.found is q)
+    (λ y q. Fails-named (c.split.ensures.whole (λ q. cc)) c.args.self.depth (omega (arith, c.args.self.room)) c.in-Ok.found is q)
 
 pub parse_named-call-requires : goal.parse_named-call-requires
 parse_named-call-requires t c =
@@ -82,8 +74,7 @@ parse_named-returns-in-Ok t c =
     MatchResult-whole c.call.result c.with_rest.result _ _ _ _ c.with_rest.ensures c.call.ensures (λ x p s. rw s (
       omega (arith, p.0),
       IsGathered-call (c.split.ensures.whole (λ q. cc)) c.in-Ok.ensures.0 p.0,
-      Applies-call (c.split.ensures.whole (λ q. cc)) is c.args.self.depth c.args.x c.args.place c.in-Ok.ensures.1 p.1
-          p.0,
+      Applies-call (c.split.ensures.whole (λ q. cc)) is c.args.self.depth c.args.x c.args.place c.in-Ok.ensures.1 p.1 p.0,
     ))
     (record { fails = λ K. tt })
 
@@ -98,21 +89,15 @@ parse_named-returns-else-begins_with_sign t c =
 pub parse_arguments-returns-then-is_sign : goal.parse_arguments-returns-then-is_sign
 parse_arguments-returns-then-is_sign t c =
     let is : c.split.result.0.now.kind ≡ Sign RightParen = search rules in (
-      rw c.no_arguments.ensures.height
-          (IsGathered-unpassed (c.args.self.depth + 1) (omega (arith, c.args.self.room))
-          (c.split.ensures.whole (λ q. cc))),
-      rw (
-        c.no_arguments.ensures.items,
-        c.no_arguments.ensures.height,
-      ) (Leads-unpassed (c.args.self.depth + 1) (omega (arith, c.args.self.room)) (c.split.ensures.whole (λ q. cc)) is),
+      rw c.no_arguments.ensures.height (IsGathered-unpassed (c.args.self.depth + 1) (omega (arith, c.args.self.room)) (c.split.ensures.whole (λ q. cc))),
+      rw (c.no_arguments.ensures.items, c.no_arguments.ensures.height) (Leads-unpassed (c.args.self.depth + 1) (omega (arith, c.args.self.room)) (c.split.ensures.whole (λ q. cc)) is),
     )
 
 pub parse_arguments-returns-then-depth-ge-MAX_NESTING : goal.parse_arguments-returns-then-depth-ge-MAX_NESTING
 parse_arguments-returns-then-depth-ge-MAX_NESTING t c =
     let is_not : c.split.result.0.now.kind ≡ Sign RightParen → ⊥ = search rules in
     let full : 200 ≤ c.args.self.depth + 1 = grind (arith, common_steps) in
-    Fails-full (c.args.self.depth + 1) c.no_room.result c.args.self.tokens.ends full
-    (λ q. is_not (sym c.split.ensures.kind ∙ q)) c.no_room.ensures
+    Fails-full (c.args.self.depth + 1) c.no_room.result c.args.self.tokens.ends full (λ q. is_not (sym c.split.ensures.kind ∙ q)) c.no_room.ensures
 
 pub parse_arguments-returns-then-is_sign-2 : goal.parse_arguments-returns-then-is_sign-2
 parse_arguments-returns-then-is_sign-2 t c =
@@ -124,8 +109,7 @@ parse_arguments-returns-then-is_sign-2 t c =
 pub parse_arguments-returns-else-is_sign-2 : goal.parse_arguments-returns-else-is_sign-2
 parse_arguments-returns-else-is_sign-2 t c =
     let is_not : c.split-2.result.0.now.kind ≡ Sign RightParen → ⊥ = search rules in
-    Fails-passed c.in-Ok.ensures.2 c.split-2.ensures.head.1 c.unexpected.result c.unexpected.ensures c.in-Ok.ensures.1
-    is_not
+    Fails-passed c.in-Ok.ensures.2 c.split-2.ensures.head.1 c.unexpected.result c.unexpected.ensures c.in-Ok.ensures.1 is_not
 
 pub parse_some_arguments-arguments-init : goal.parse_some_arguments-arguments-init
 parse_some_arguments-arguments-init t c = (
@@ -151,5 +135,4 @@ parse_some_arguments-returns-in-Err t c =
 pub parse_some_arguments-returns-in-Err-parse_expression : goal.parse_some_arguments-returns-in-Err-parse_expression
 parse_some_arguments-returns-in-Err-parse_expression t c =
     let comma : first_kind c.arguments.rest.list.now ≡ Sign Comma = search rules in
-    Fails-added c.arguments.invariant.1 (c.split.ensures.whole (λ q. cc)) comma (omega (arith, c.args.self.room))
-    c.in-Err-parse_expression.ensures
+    Fails-added c.arguments.invariant.1 (c.split.ensures.whole (λ q. cc)) comma (omega (arith, c.args.self.room)) c.in-Err-parse_expression.ensures
