@@ -1,7 +1,7 @@
 -- Lemmas on specs/Slots.antt: pages in order, and the order of their cells.
 use Rattle.std.proofs.Common.{◌≡◌, ◌⊎◌, inl, inr, ℕ, ℤ, pos, zero, suc, ◌<◌, ◌≤◌, ◌+ℤ◌, ◌*ℤ◌, ◌<ℤ◌, Bool, true, false}
 use Rattle.std.proofs.Common.{◌&&◌, T, List, [], ◌∷◌, ◌++◌, map, Option, Some, None, refl, sym, subst, ◌∙◌, ap, arith}
-use Rattle.std.proofs.Common.{Vec, Global, All}
+use Rattle.std.proofs.Common.{Vec, Global}
 use Rattle.std.specs.FinMap.{entries, entries_sorted, entries-from_sorted, from_entries, from_sorted, get-from_entries, get-from_sorted, is_sorted, same_map}
 use Rattle.std.specs.FinMap.Entries.{below_all}
 use Rattle.std.specs.List.{IsDistinct, AllByRecursion}
@@ -15,8 +15,7 @@ use Rattle.std.specs.declared.cmp.Ordering.TheVariants.{Less, Equal, Greater}
 use Rattle.std.proofs.lemmas.Cmp.{int_ranked, tied_itself}
 use Rattle.std.proofs.lemmas.Int.{ints}
 use Rattle.std.proofs.lemmas.List.Concat.{flat_map-cons}
-use Rattle.std.proofs.lemmas.List.Elements.{All-from_recursion, recursion_from_All}
-use Rattle.std.proofs.lemmas.List.Sorted.{IsPermutation-map, IsPermutation-refl, All-permutation}
+use Rattle.std.proofs.lemmas.List.Sorted.{IsPermutation-map, IsPermutation-refl}
 use Rattle.id_tag.specs.declared.Cell.{Cell}
 use Rattle.id_tag.specs.declared.Structure.{Structure}
 use Rattle.id_tag.specs.Tags.{cell_cmp, structure_cmp}
@@ -24,7 +23,7 @@ use Rattle.id_tag.proofs.TagsLemmas.{cells_total, exact_cells}
 use Rattle.id_tag.proofs.SortedLemmas.{entries-from_sort}
 use Rattle.id_bank.specs.declared.slot.Slot.{Slot}
 use Rattle.id_bank.specs.Cells.{CellState}
-use Rattle.id_bank.specs.Slots.{IsPage, page_of, offset_of, cell_in, same_page, state_in, entry_at, cells_below, page_cells, cells_in}
+use Rattle.id_bank.specs.Slots.{page_of, offset_of, cell_in, same_page, state_in, entry_at, cells_below, page_cells, cells_in}
 use Rattle.id_bank.proofs.SlotsLemmas.{IsBelow, named, page_cell, index_parts, below_8, cell_in-page_of}
 use Rattle.id_bank.proofs.SlotsLemmas.{keys_of-append, all_append, all_weaker, below-cells_below}
 use Rattle.id_bank.proofs.SlotsLemmas.{same-from_permutation, distinct-from_permutation}
@@ -189,16 +188,6 @@ module _ {A : Type 0} (show : A → (ℤ × Structure) × Vec Slot Global) (es :
 
   unique-moved : IsDistinct same_page (keys_of (map show ys))
   unique-moved = distinct-from_permutation es (map show ys) moved unique
-
-  fits-keys : (zs : List A) → AllByRecursion IsPage (keys_of (map show zs)) → AllByRecursion (λ a. IsPage (show a).0) zs
-  fits-keys [] h = tt
-  fits-keys (z ∷ zs) h = (h.0, fits-keys zs h.1)
-
-  pub fits-listed : All IsPage (keys_of es) → All (λ a. IsPage (show a).0) ys
-  fits-listed all =
-      All-from_recursion _ ys (fits-keys ys (recursion_from_All _ _
-      (All-permutation IsPage (keys_of es) (keys_of (map show ys)) (IsPermutation-map (λ (e : (ℤ × Structure) × Vec Slot Global). e.0) es (map show ys) moved)
-      all)))
 
   apart_named : (p : ℤ × Structure) (zs : List A) → AllByRecursion (λ q. same_page p q ≡ false) (keys_of (map show zs))
       → AllByRecursion (λ d. eq_by_cmp cell_cmp (named p) d ≡ false) (keys_of (map paged (map show zs)))

@@ -2,7 +2,7 @@
 use Rattle.std.proofs.Common.{◌≡◌, ℕ, ℤ, pos, negsuc, zero, suc, ◌+◌, ◌<◌, ◌≤◌, ◌+ℤ◌, ◌*ℤ◌, Bool, true, false, cond}
 use Rattle.std.proofs.Common.{◌&&◌, nat_eq, nat_lt, List, [], ◌∷◌, ◌++◌, map, length, Option, Some, None, option_map}
 use Rattle.std.proofs.Common.{option_and_then, Result, Ok, Err, OnOk, OnErr, refl, sym, subst, ◌∙◌, ap, arith, Vec}
-use Rattle.std.proofs.Common.{Global, slice_get, position, IfSome, IfOk, get_or, All, ◌≢◌, true≢false}
+use Rattle.std.proofs.Common.{Global, slice_get, position, IfSome, IfOk, get_or, ◌≢◌, true≢false}
 use Rattle.std.specs.FinMap.{empty, entries, entries-insert, find, get, insert, from_entries, get-empty}
 use Rattle.std.specs.FinMap.{get-from_entries, get-insert, len-empty, len-entries, put, same_map}
 use Rattle.std.specs.FinMap.Entries.{by_order}
@@ -16,7 +16,6 @@ use Rattle.std.proofs.lemmas.Map.Keys.{IsDistinct-IsPermutation}
 use Rattle.indexmap.proofs.MapLemmas.{lookup_permutation}
 use Rattle.std.proofs.lemmas.List.Quantifiers.{position-Some}
 use Rattle.std.proofs.lemmas.Option.{slice_get-get_or, slice_get-map}
-use Rattle.std.proofs.lemmas.List.Elements.{All-push}
 use Rattle.std.specs.HashMap.{HashMap, IsUnique, Updates}
 use Rattle.std.specs.HashMap as hash
 use Rattle.indexmap.specs.IndexMap.{set_value_at, with_value_at, insert_entry}
@@ -36,7 +35,7 @@ use Rattle.id_tag.specs.Tags.{cell_cmp, same_structure}
 use Rattle.id_tag.proofs.TagsLemmas.{cells_total, exact_cells, one_from_same_cell, ties-same_cell}
 use Rattle.id_bank.specs.declared.slot.Slot.{Slot}
 use Rattle.id_bank.specs.Cells.{CellState, Present, Deferred, Cells, count_readers, deferred_of, readers_at}
-use Rattle.id_bank.specs.Slots.{IsPage, HasNone, HasNoReaders, page_of, offset_of, cell_in, same_page, state_in}
+use Rattle.id_bank.specs.Slots.{HasNone, HasNoReaders, page_of, offset_of, cell_in, same_page, state_in}
 use Rattle.id_bank.specs.Slots.{state_at, entry_at, cells_below, page_cells, cells_in}
 
 -- ---- tests
@@ -587,9 +586,6 @@ module _ {S : Type 0} (m : HashMap (ℤ × Structure) (Vec Slot Global) S) (uniq
   pub unique-written : IsUnique same_page (with_value_at m i w)
   unique-written = subst (IsDistinct same_page) (sym (keys-with_value_at m i w)) unique
 
-  pub fits-written : All IsPage (keys_of m.entries) → All IsPage (keys_of (set_value_at m.entries i w))
-  fits-written all = subst (All IsPage) (sym (keys-with_value_at m i w)) all
-
 module _ {S : Type 0} (m n : HashMap (ℤ × Structure) (Vec Slot Global) S) (p : ℤ × Structure) (w : Vec Slot Global) (absent : hash.get same_page m p ≡ None)
   where
     -- a new page, none of whose cells was read or written, changes nothing
@@ -612,15 +608,6 @@ module _ {S : Type 0} (m n : HashMap (ℤ × Structure) (Vec Slot Global) S) (p 
     pub found-new : n.entries ≡ insert_entry same_page m.entries p w → slice_get (keys_of n.entries) (length m.entries) ≡ Some p
     found-new is =
         ap (λ es. slice_get (keys_of es) (length m.entries)) (is ∙ insert_entry-new same_page m p w absent) ∙ last_key m.entries (p, w)
-
-    keys_of-end : (es : List ((ℤ × Structure) × Vec Slot Global)) (e : (ℤ × Structure) × Vec Slot Global) → keys_of (es ++ e ∷ []) ≡ keys_of es ++ e.0 ∷ []
-    keys_of-end [] e = refl
-    keys_of-end (x ∷ es) e = ap (λ l. x.0 ∷ l) (keys_of-end es e)
-
-    pub fits-new : n.entries ≡ insert_entry same_page m.entries p w → IsPage p → All IsPage (keys_of m.entries) → All IsPage (keys_of n.entries)
-    fits-new is here all =
-        subst (All IsPage) (sym (ap keys_of (is ∙ insert_entry-new same_page m p w absent) ∙ keys_of-end m.entries (p, w)))
-        (All-push IsPage (keys_of m.entries) p all here)
 
 -- what holds at an answer implies more there
 pub if_ok : {A B : Type 0} (r : Result A B) (P Q : A → Type 0) → ((a : A) → P a → Q a) → IfOk r P → IfOk r Q

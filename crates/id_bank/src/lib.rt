@@ -12,11 +12,11 @@ ghost use Rattle.std.specs.Prelude.{◌≡◌, ◌↔◌, ◌++◌, ◌<◌, len
 ghost use Rattle.std.specs.Prelude.{map as map_list};
 ghost use Rattle.std.specs.FinMap as map;
 ghost use Rattle.std.specs.List.{flat_map};
-ghost use Rattle.indexmap.specs.IndexMap.{keys, IsUnique};
+ghost use Rattle.indexmap.specs.IndexMap.{IsUnique};
 ghost use Rattle.id_tag.specs.Tags.{cell_cmp};
 ghost use Rattle.id_bank.specs.declared.cell.ReadAnswer.TheVariants.{Deferred as PutOff};
 ghost use Rattle.id_bank.specs.Cells.{filled_at, read_answer, write_answer};
-ghost use Rattle.id_bank.specs.Slots.{HasNone, HasNoReaders, IsPage, same_page, state_in, held_in, entry_at, cell_in};
+ghost use Rattle.id_bank.specs.Slots.{HasNone, HasNoReaders, same_page, state_in, held_in, entry_at, cell_in};
 ghost use Rattle.id_bank.specs.Slots.{cells_below, cells_in, page_cells};
 
 mod cell;
@@ -24,12 +24,12 @@ mod page;
 mod slot;
 
 use crate::page::{
-    Recent, cell_in, count_filled_in, expected_in, filled_in, has_no_readers, has_none, offset_of,
-    page_of, place, read_at, readers_in, write_at,
+    Page, Recent, count_filled_in, expected_in, filled_in, has_no_readers, has_none, offset_of,
+    place, read_at, readers_in, write_at,
 };
 use crate::slot::{Slot, waiting};
 pub use cell::{Filled, ReadAnswer, Reader, Replies, WriteAnswer};
-use id_tag::{Cell, NearHasher, Structure, Tag, Value};
+use id_tag::{Cell, NearHasher, Tag, Value};
 use indexmap::IndexMap;
 use std::alloc::{AllocError, Global};
 use std::marker::Model;
@@ -38,7 +38,7 @@ use std::marker::Model;
 #[derive(Drop)]
 pub struct Bank {
     alloc: Global,
-    pages: IndexMap<(i64, Structure), Vec<Slot>, NearHasher>,
+    pages: IndexMap<Page, Vec<Slot>, NearHasher>,
     recent: Recent,
 }
 
@@ -46,17 +46,13 @@ impl Model for Bank {
     ghost use Rattle.std.specs.FinMap as map;
     ghost use Rattle.id_bank.specs.Cells.{Cells};
     ghost use Rattle.id_bank.specs.Codes.{coded_cells};
-    ghost use Rattle.std.specs.Prelude.{All};
-    ghost use Rattle.indexmap.specs.IndexMap.{keys};
-    ghost use Rattle.id_bank.specs.Slots.{IsPage, cells_in};
+    ghost use Rattle.id_bank.specs.Slots.{cells_in};
 
     ghost Value = { Cells };
 
     ghost coded = { coded_cells };
 
     ghost view = { λ b. map.from_entries (cells_in b.pages.entries) };
-
-    ghost invariant = { λ b. All IsPage (keys b.pages) };
 }
 
 impl Bank {
@@ -87,7 +83,7 @@ impl Bank {
             &mut self.pages,
             &mut self.recent,
             self.alloc,
-            page_of(cell),
+            Page::of(cell),
             offset_of(cell),
             reply,
         )
@@ -109,7 +105,7 @@ impl Bank {
             &mut self.pages,
             &mut self.recent,
             self.alloc,
-            page_of(cell),
+            Page::of(cell),
             offset_of(cell),
             value,
             origin,
@@ -127,7 +123,7 @@ impl Bank {
     pub fn readers(&self, cell: Cell) -> usize
         ensures { result ≡ count_readers (map.get self.now cell) }
     {
-        let key = page_of(cell);
+        let key = Page::of(cell);
         match place(&self.pages, &self.recent, key) {
             Some(i) => readers_in(&self.pages[i], offset_of(cell)),
             None => 0,
@@ -138,7 +134,7 @@ impl Bank {
     pub fn expected(&self, cell: Cell) -> Option<usize>
         ensures { result ≡ count_expected (map.get self.now cell) }
     {
-        let key = page_of(cell);
+        let key = Page::of(cell);
         match place(&self.pages, &self.recent, key) {
             Some(i) => expected_in(&self.pages[i], offset_of(cell)),
             None => Some(0),
@@ -175,7 +171,7 @@ impl Bank {
 /// The cells that hold a value, in the order of cells: those that are still to come.
 #[derive(Drop)]
 pub struct Cells<'a> {
-    pages: Vec<((i64, Structure), &'a Vec<Slot>)>,
+    pages: Vec<(Page, &'a Vec<Slot>)>,
     // The page that is gone through.
     page: usize,
     // How many of its places are still to come.
@@ -185,19 +181,18 @@ pub struct Cells<'a> {
 }
 
 impl<'a> Model for Cells<'a> {
-    ghost use Rattle.std.specs.Prelude.{◌≡◌, ◌≤◌, List, All, drop, length, map};
+    ghost use Rattle.std.specs.Prelude.{◌≡◌, ◌≤◌, List, drop, length, map};
     ghost use Rattle.std.specs.List.{flat_map};
     ghost use Rattle.id_bank.specs.Cells.{filled_at};
     ghost use Rattle.id_bank.specs.declared.cell.Filled.{Filled};
-    ghost use Rattle.id_bank.specs.Slots.{IsPage, cells_left};
+    ghost use Rattle.id_bank.specs.Slots.{cells_left};
 
     ghost Value = { List Filled };
 
     ghost view = { λ c.
         flat_map filled_at (cells_left c.left (map (λ e. (e.0, e.1.now)) (drop c.page c.pages.items))) };
 
-    ghost invariant = { λ c. (c.left ≤ 8) × All (λ e. IsPage e.0) c.pages.items
-        × (c.count ≡ length (flat_map filled_at (cells_left c.left
+    ghost invariant = { λ c. (c.left ≤ 8) × (c.count ≡ length (flat_map filled_at (cells_left c.left
         (map (λ e. (e.0, e.1.now)) (drop c.page c.pages.items))))) };
 }
 
@@ -235,14 +230,14 @@ impl<'a> Cells<'a> {
 }
 
 // Whether no cell was read or written: mostly the first page decides.
-fn none_held(pages: &IndexMap<(i64, Structure), Vec<Slot>, NearHasher>) -> bool
+fn none_held(pages: &IndexMap<Page, Vec<Slot>, NearHasher>) -> bool
     ensures { IsTrue result ↔ All (λ e. HasNone e.1.items) pages.now.entries }
 {
     pages.iter().all(|(_, slots)| has_none(slots))
 }
 
 // Whether no reply waits for a cell's value.
-fn none_waits(pages: &IndexMap<(i64, Structure), Vec<Slot>, NearHasher>) -> bool
+fn none_waits(pages: &IndexMap<Page, Vec<Slot>, NearHasher>) -> bool
     ensures { IsTrue result ↔ All (λ e. HasNoReaders e.1.items) pages.now.entries }
 {
     pages.iter().all(|(_, slots)| has_no_readers(slots))
@@ -251,9 +246,8 @@ fn none_waits(pages: &IndexMap<(i64, Structure), Vec<Slot>, NearHasher>) -> bool
 // The cells with what they hold, in their order.
 fn in_order(
     alloc: Global,
-    pages: &IndexMap<(i64, Structure), Vec<Slot>, NearHasher>,
+    pages: &IndexMap<Page, Vec<Slot>, NearHasher>,
 ) -> Result<Vec<(Cell, &Slot)>, AllocError>
-    requires { All IsPage (keys pages.now) }
     ensures { IfOk result (λ es. map_list (λ e. (e.0, held_in e.1.now)) es.items ≡
         map.entries (map.from_entries {R = cell_cmp} (cells_in pages.now.entries))) }
 {
@@ -264,23 +258,21 @@ fn in_order(
 // The pages with their slots, in the order of their cells.
 fn ordered(
     alloc: Global,
-    pages: &IndexMap<(i64, Structure), Vec<Slot>, NearHasher>,
-) -> Result<Vec<((i64, Structure), &Vec<Slot>)>, AllocError>
-    requires { All IsPage (keys pages.now) }
-    ensures fits { IfOk result (λ es. All (λ e. IsPage e.0) es.items) }
-    ensures listed { IfOk result (λ es. cells_in (map_list (λ e. (e.0, e.1.now)) es.items) ≡
+    pages: &IndexMap<Page, Vec<Slot>, NearHasher>,
+) -> Result<Vec<(Page, &Vec<Slot>)>, AllocError>
+    ensures { IfOk result (λ es. cells_in (map_list (λ e. (e.0, e.1.now)) es.items) ≡
         map.entries (map.from_entries {R = cell_cmp} (cells_in pages.now.entries))) }
 {
     let mut order = shown(alloc, pages)?;
-    order.sort_by_key(|e| (e.0.1, e.0.0))?;
+    order.sort_by_key(|e| e.0.rank())?;
     Ok(order)
 }
 
 // The pages with their slots.
 fn shown(
     alloc: Global,
-    pages: &IndexMap<(i64, Structure), Vec<Slot>, NearHasher>,
-) -> Result<Vec<((i64, Structure), &Vec<Slot>)>, AllocError>
+    pages: &IndexMap<Page, Vec<Slot>, NearHasher>,
+) -> Result<Vec<(Page, &Vec<Slot>)>, AllocError>
     ensures items { IfOk result (λ es. map_list (λ e. (e.0, e.1.now)) es.items ≡ pages.now.entries) }
     ensures unique { IsUnique same_page pages.now }
 {
@@ -292,7 +284,7 @@ fn shown(
 
 // How many cells of pages hold a value. More than a machine word counts, which no memory has, would be told as want of
 // memory.
-fn count_filled(pages: &[((i64, Structure), &Vec<Slot>)]) -> Result<usize, AllocError>
+fn count_filled(pages: &[(Page, &Vec<Slot>)]) -> Result<usize, AllocError>
     ensures { IfOk result
         (λ n. n ≡ length (flat_map filled_at (flat_map (λ e. page_cells (e.0, e.1.now)) pages.now))) }
 {
@@ -309,9 +301,8 @@ fn count_filled(pages: &[((i64, Structure), &Vec<Slot>)]) -> Result<usize, Alloc
 // The cells of pages.
 fn spread<'a>(
     alloc: Global,
-    pages: &[((i64, Structure), &'a Vec<Slot>)],
+    pages: &[(Page, &'a Vec<Slot>)],
 ) -> Result<Vec<(Cell, &'a Slot)>, AllocError>
-    requires { All (λ e. IsPage e.0) pages.now }
     ensures { IfOk result (λ es. map_list (λ e. (e.0, held_in e.1.now)) es.items ≡
         flat_map (λ e. page_cells (e.0, e.1.now)) pages.now) }
 {
@@ -325,10 +316,9 @@ fn spread<'a>(
 // Those of a page's cells that were read or written.
 fn add_cells<'a>(
     cells: &mut Vec<(Cell, &'a Slot)>,
-    page: (i64, Structure),
+    page: Page,
     slots: &'a [Slot],
 ) -> Result<(), AllocError>
-    requires { IsPage page }
     ensures { OnOk result (map_list (λ e. (e.0, held_in e.1.now)) cells.new.items ≡
         map_list (λ e. (e.0, held_in e.1.now)) cells.old.items ++ cells_below 8 page slots.now) }
 {
@@ -342,18 +332,17 @@ fn add_cells<'a>(
 #[inline(always)]
 fn add_cell<'a>(
     cells: &mut Vec<(Cell, &'a Slot)>,
-    page: (i64, Structure),
+    page: Page,
     slots: &'a [Slot],
     offset: usize,
 ) -> Result<(), AllocError>
-    requires page { IsPage page }
-    requires offset { offset < 8 }
+    requires { offset < 8 }
     ensures { OnOk result (map_list (λ e. (e.0, held_in e.1.now)) cells.new.items ≡
         map_list (λ e. (e.0, held_in e.1.now)) cells.old.items ++
         entry_at (cell_in page offset) (state_in slots.now offset)) }
 {
     if offset < slots.len() && !slots[offset].is_absent() {
-        cells.push((cell_in(page, offset), &slots[offset]))?;
+        cells.push((page.cell(offset), &slots[offset]))?;
     }
     Ok(())
 }

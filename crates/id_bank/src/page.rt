@@ -3,7 +3,7 @@
 ghost use Rattle.std.specs.Prelude.{◌≡◌, ℕ, ℤ, ◌+◌, ◌<◌, ◌&&◌, ◌≢◌, ◌↔◌, IsTrue};
 ghost use Rattle.std.specs.Prelude.{nat_eq, false, length};
 ghost use Rattle.std.specs.Prelude.{IfOk, IfSome, IfNone, OnOk, OnErr};
-ghost use Rattle.std.specs.Prelude.{All, None, Some, slice_get};
+ghost use Rattle.std.specs.Prelude.{None, Some, slice_get};
 ghost use Rattle.std.specs.List.{flat_map};
 ghost use Rattle.indexmap.specs.IndexMap.{keys, get, IsUnique};
 ghost use Rattle.id_tag.specs.declared.Structure.{Structure};
@@ -11,13 +11,83 @@ ghost use Rattle.id_bank.specs.declared.cell.ReadAnswer.TheVariants.{Deferred as
 ghost use Rattle.id_bank.specs.Cells.{read_answer, state_read, write_answer, state_written, count_expected};
 ghost use Rattle.id_bank.specs.Cells.{count_readers, filled_at};
 ghost use Rattle.id_bank.specs.Slots.{page_of, offset_of, cell_in, same_page, state_in, state_at};
-ghost use Rattle.id_bank.specs.Slots.{IsPage, HasNone, HasNoReaders, cells_below, filled_by};
+ghost use Rattle.id_bank.specs.Slots.{HasNone, HasNoReaders, cells_below, filled_by};
 
 use crate::cell::{Filled, ReadAnswer, WriteAnswer};
 use crate::slot::{Slot, filled_by};
 use id_tag::{Cell, NearHasher, Structure, Tag, Value};
 use indexmap::IndexMap;
 use std::alloc::{AllocError, Global};
+use std::marker::Model;
+
+/// A page: the eight neighbours of a structure whose indexes have one quotient by 8, its number. Clauses see the two as
+/// a pair.
+///
+/// Keeps: the indexes of all eight have 64 bits.
+#[derive(Clone, Copy, PartialEq, Eq, Hash)]
+pub(crate) struct Page {
+    number: i64,
+    structure: Structure,
+}
+
+impl Model for Page {
+    ghost use Rattle.std.specs.Prelude.{ℤ};
+    ghost use Rattle.id_tag.specs.declared.Structure.{Structure};
+    ghost use Rattle.id_bank.specs.Slots.{IsPage};
+
+    ghost Value = { ℤ × Structure };
+
+    ghost view = { λ p. (p.number, p.structure) };
+
+    ghost invariant = { λ p. IsPage (p.number, p.structure) };
+
+    ghost inverse = { λ p. record { number = p.0; structure = p.1 } };
+}
+
+impl Page {
+    /// The page of a cell. Takes no memory.
+    #[inline(always)]
+    pub(crate) fn of(cell: Cell) -> Page
+        ensures { result ≡ page_of cell }
+    {
+        Page {
+            number: cell.index.div_euclid(8),
+            structure: cell.structure,
+        }
+    }
+
+    /// What pages are sorted by, so that their cells are in order. Takes no memory.
+    pub(crate) fn rank(self) -> (Structure, i64)
+        ensures { result ≡ (self.1, self.0) }
+    {
+        (self.structure, self.number)
+    }
+
+    // Of which of 64 sorts it is: neighbouring pages, and the same pages of neighbouring structures, are of different
+    // ones.
+    #[inline(always)]
+    fn sort(self) -> usize
+        ensures { result < 64 }
+    {
+        let number = self
+            .number
+            .cast_unsigned()
+            .wrapping_add(self.structure.serial.wrapping_mul(5));
+        (number % 64) as usize
+    }
+
+    /// The cell at a place of the page. Takes no memory.
+    #[inline(always)]
+    pub(crate) fn cell(self, offset: usize) -> Cell
+        requires { offset < 8 }
+        ensures { result ≡ cell_in self offset }
+    {
+        Cell {
+            structure: self.structure,
+            index: self.number * 8 + offset as i64,
+        }
+    }
+}
 
 /// Where pages were found of late: for each of 64 sorts of pages one place, which may be another page's.
 #[derive(Clone, Copy)]
@@ -33,38 +103,17 @@ impl Recent {
 
     // Where this page may be.
     #[inline(always)]
-    fn place(&self, page: (i64, Structure)) -> usize {
-        self.places[sort_of(page)] as usize
+    fn place(&self, page: Page) -> usize {
+        self.places[page.sort()] as usize
     }
 
     // Notes where this page was found.
     #[inline(always)]
-    fn note(&mut self, page: (i64, Structure), place: usize) {
+    fn note(&mut self, page: Page, place: usize) {
         if place <= 0xffff_ffff {
-            self.places[sort_of(page)] = place as u32;
+            self.places[page.sort()] = place as u32;
         }
     }
-}
-
-// Neighbouring pages, and the same pages of neighbouring structures, are of different sorts.
-#[inline(always)]
-fn sort_of(page: (i64, Structure)) -> usize
-    ensures { result < 64 }
-{
-    let number = page
-        .0
-        .cast_unsigned()
-        .wrapping_add(page.1.serial.wrapping_mul(5));
-    (number % 64) as usize
-}
-
-/// The page of a cell. Takes no memory.
-#[inline(always)]
-pub(crate) fn page_of(cell: Cell) -> (i64, Structure)
-    ensures value { result ≡ page_of cell }
-    ensures fits { IsPage result }
-{
-    (cell.index.div_euclid(8), cell.structure)
 }
 
 /// The place of a cell in its page. Takes no memory.
@@ -76,25 +125,12 @@ pub(crate) fn offset_of(cell: Cell) -> usize
     cell.index.rem_euclid(8) as usize
 }
 
-/// The cell at a place of a page. Takes no memory.
-#[inline(always)]
-pub(crate) fn cell_in(page: (i64, Structure), offset: usize) -> Cell
-    requires page { IsPage page }
-    requires offset { offset < 8 }
-    ensures { result ≡ cell_in page offset }
-{
-    Cell {
-        structure: page.1,
-        index: page.0 * 8 + offset as i64,
-    }
-}
-
 /// The place of a page among the pages, if it is there. Takes no memory.
 #[inline(always)]
 pub(crate) fn place(
-    pages: &IndexMap<(i64, Structure), Vec<Slot>, NearHasher>,
+    pages: &IndexMap<Page, Vec<Slot>, NearHasher>,
     recent: &Recent,
-    page: (i64, Structure),
+    page: Page,
 ) -> Option<usize>
     ensures found { IfSome result (λ i. slice_get (keys pages.now) i ≡ Some page) }
     ensures absent { IfNone result (get same_page pages.now page ≡ None) }
@@ -112,14 +148,13 @@ pub(crate) fn place(
 
 /// Reads the cell at a place of a page.
 pub(crate) fn read_at(
-    pages: &mut IndexMap<(i64, Structure), Vec<Slot>, NearHasher>,
+    pages: &mut IndexMap<Page, Vec<Slot>, NearHasher>,
     recent: &mut Recent,
     alloc: Global,
-    page: (i64, Structure),
+    page: Page,
     offset: usize,
     reply: Tag,
 ) -> Result<ReadAnswer, AllocError>
-    requires { IsPage page }
     ensures answer { IfOk result (λ answer. answer ≡ read_answer (state_at pages.old.entries page offset)) }
     ensures at { OnOk result (state_at pages.new.entries page offset ≡
         Some (state_read reply (state_at pages.old.entries page offset))) }
@@ -129,7 +164,6 @@ pub(crate) fn read_at(
     ensures err { OnErr result (state_at pages.new.entries page offset ≡ state_at pages.old.entries page offset) }
     ensures unique { IsUnique same_page pages.new }
     ensures was_unique { IsUnique same_page pages.old }
-    ensures fits { All IsPage (keys pages.old) → All IsPage (keys pages.new) }
 {
     let i = reach_page(pages, recent, alloc, page)?;
     let (_, slots) = pages.pair_mut(i);
@@ -138,15 +172,14 @@ pub(crate) fn read_at(
 
 /// Writes to the cell at a place of a page.
 pub(crate) fn write_at(
-    pages: &mut IndexMap<(i64, Structure), Vec<Slot>, NearHasher>,
+    pages: &mut IndexMap<Page, Vec<Slot>, NearHasher>,
     recent: &mut Recent,
     alloc: Global,
-    page: (i64, Structure),
+    page: Page,
     offset: usize,
     value: Value,
     origin: Tag,
 ) -> Result<WriteAnswer, AllocError>
-    requires { IsPage page }
     ensures answer { IfOk result (λ answer. answer ≡ write_answer (state_at pages.old.entries page offset)) }
     ensures at { OnOk result (state_at pages.new.entries page offset ≡
         Some (state_written value origin (state_at pages.old.entries page offset))) }
@@ -155,7 +188,6 @@ pub(crate) fn write_at(
     ensures err { OnErr result (state_at pages.new.entries page offset ≡ state_at pages.old.entries page offset) }
     ensures unique { IsUnique same_page pages.new }
     ensures was_unique { IsUnique same_page pages.old }
-    ensures fits { All IsPage (keys pages.old) → All IsPage (keys pages.new) }
 {
     let i = reach_page(pages, recent, alloc, page)?;
     let (_, slots) = pages.pair_mut(i);
@@ -165,19 +197,17 @@ pub(crate) fn write_at(
 // The place of a page among the pages, where it comes last if it is new.
 #[inline(always)]
 fn reach_page(
-    pages: &mut IndexMap<(i64, Structure), Vec<Slot>, NearHasher>,
+    pages: &mut IndexMap<Page, Vec<Slot>, NearHasher>,
     recent: &mut Recent,
     alloc: Global,
-    page: (i64, Structure),
+    page: Page,
 ) -> Result<usize, AllocError>
-    requires { IsPage page }
     ensures found { IfOk result (λ i. slice_get (keys pages.new) i ≡ Some page) }
     ensures same { (p : ℤ × Structure) (k : ℕ)
         → state_at pages.new.entries p k ≡ state_at pages.old.entries p k }
     ensures absent { OnErr result ((k : ℕ) → state_at pages.old.entries page k ≡ None) }
     ensures unique { IsUnique same_page pages.new }
     ensures was_unique { IsUnique same_page pages.old }
-    ensures fits { All IsPage (keys pages.old) → All IsPage (keys pages.new) }
 {
     let i = match place(pages, recent, page) {
         Some(i) => i,
@@ -191,17 +221,15 @@ fn reach_page(
 #[cold]
 #[inline(never)]
 fn add_page(
-    pages: &mut IndexMap<(i64, Structure), Vec<Slot>, NearHasher>,
+    pages: &mut IndexMap<Page, Vec<Slot>, NearHasher>,
     alloc: Global,
-    page: (i64, Structure),
+    page: Page,
 ) -> Result<usize, AllocError>
-    requires page { IsPage page }
-    requires new { get same_page pages.old page ≡ None }
+    requires { get same_page pages.old page ≡ None }
     ensures found { IfOk result (λ i. slice_get (keys pages.new) i ≡ Some page) }
     ensures same { (p : ℤ × Structure) (k : ℕ)
         → state_at pages.new.entries p k ≡ state_at pages.old.entries p k }
     ensures unique { IsUnique same_page pages.new }
-    ensures fits { All IsPage (keys pages.old) → All IsPage (keys pages.new) }
 {
     let i = pages.len();
     pages.insert(page, Vec::new(alloc))?;
@@ -295,13 +323,12 @@ pub(crate) fn expected_in(slots: &[Slot], offset: usize) -> Option<usize>
 
 /// The cell at a place of a page, if it holds a value. Takes no memory.
 #[inline(always)]
-pub(crate) fn filled_in(page: (i64, Structure), slots: &[Slot], offset: usize) -> Option<Filled>
-    requires page { IsPage page }
-    requires offset { offset < 8 }
+pub(crate) fn filled_in(page: Page, slots: &[Slot], offset: usize) -> Option<Filled>
+    requires { offset < 8 }
     ensures { result ≡ filled_by (cell_in page offset) (state_in slots.now offset) }
 {
     if offset < slots.len() {
-        filled_by(cell_in(page, offset), &slots[offset])
+        filled_by(page.cell(offset), &slots[offset])
     } else {
         None
     }

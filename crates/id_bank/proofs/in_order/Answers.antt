@@ -9,5 +9,5 @@ pub returns : goal.returns
 returns c =
     let all = ap (flat_map (λ e. page_cells (e.0, e.1.now))) c.deref.ensures.value
     ∙ sym (flat_map-map page_cells (λ e. (e.0, e.1.now)) c.in_ok-order.order.items)
-    ∙ c.in_ok-order.ensures.listed in
+    ∙ c.in_ok-order.ensures in
     subst (λ l. IfOk c.spread.result (λ es. map (λ e. (e.0, held_in e.1.now)) es.items ≡ l)) all c.spread.ensures

@@ -11,7 +11,6 @@ pub invariant_of-result : goal.invariant_of-result
 invariant_of-result c =
     let pages = c.in_ok-pages.pages.items in (
       omega arith,
-      c.in_ok-pages.ensures.fits,
       c.in_ok-count.ensures
           ∙ ap (λ es. length (flat_map filled_at (flat_map (λ e. page_cells (e.0, e.1.now)) es))) c.deref.ensures.value
           ∙ ap (λ es. length (flat_map filled_at es)) (sym (flat_map-map page_cells (λ e. (e.0, e.1.now)) pages) ∙
@@ -21,6 +20,6 @@ invariant_of-result c =
 pub returns : goal.returns
 returns c =
     record {
-      items = ap (flat_map filled_at) (cells_left-all (map (λ e. (e.0, e.1.now)) c.in_ok-pages.pages.items) ∙ c.in_ok-pages.ensures.listed) ∙
+      items = ap (flat_map filled_at) (cells_left-all (map (λ e. (e.0, e.1.now)) c.in_ok-pages.pages.items) ∙ c.in_ok-pages.ensures) ∙
           ap cells_of c.self.view_is;
     }

@@ -24,7 +24,6 @@ loop-self-preserved-in_default c =
     sym c.filled_in.ensures ∙ c.in_default.is in
     record {
       left = omega (arith, c.loop-self.invariant.left);
-      fits = c.loop-self.invariant.fits;
       count = c.loop-self.invariant.count;
       same = sym (none_at (λ e. (e.0, e.1.now)) s.pages.items s.page s.left (8 - s.left) c.index-entry.result.now inside (sym c.index-entry.ensures)
           c.if-self-gt0.true (λ i. 8 - s.left) here) ∙ c.loop-self.invariant.same;
@@ -36,7 +35,6 @@ loop-self-preserved c =
     let inside : s.page < length s.pages.items = omega (arith, c.len.ensures, s.pages.ok.0, c.loop-self-test.true) in
     record {
       left = omega arith;
-      fits = c.loop-self.invariant.fits;
       count = c.loop-self.invariant.count;
       same = sym (ap (flat_map filled_at) (next_page (λ e. (e.0, e.1.now)) s.pages.items s.page s.left inside (omega (arith, c.if-self-gt0.false)))) ∙
           c.loop-self.invariant.same;
@@ -45,7 +43,7 @@ loop-self-preserved c =
 pub invariant_of-self : goal.invariant_of-self
 invariant_of-self c =
     let known = c.loop-self.invariant in
-    (known.left, known.fits, known.count ∙ ap length (sym known.same))
+    (known.left, known.count ∙ ap length (sym known.same))
 
 -- the cell that is given was one of those to come
 pub overflow_sub-self-in-Some : goal.overflow_sub-self-in-Some
@@ -68,7 +66,6 @@ invariant_of-self-in-Some c =
     let here = ap (λ ss. filled_by (cell_in c.index-entry.result.now.0 (8 - s.left)) (state_in ss (8 - s.left))) (sym c.deref.ensures.value) ∙
     sym c.filled_in.ensures ∙ c.in-Some.is in (
       omega (arith, known.left),
-      known.fits,
       (one_fewer s.count _ _ _
           (some_at (λ e. (e.0, e.1.now)) s.pages.items s.page s.left (8 - s.left) c.index-entry.result.now c.in-Some.filled inside (sym c.index-entry.ensures)
           c.if-self-gt0.true (λ i. 8 - s.left) here)

@@ -3,7 +3,7 @@ use Rattle.std.proofs.Common.{◌≡◌, ◌∙◌, sym, subst, Some, IfOk, OnOk
 use Rattle.id_bank.specs.declared.cell.ReadAnswer.TheVariants.{Deferred as PutOff}
 use Rattle.id_bank.specs.Cells.{read_answer, state_read}
 use Rattle.id_bank.specs.Slots.{state_at, state_in}
-use Rattle.id_bank.proofs.SlotsLemmas.{state_at-entry, state_at-written, others-written, unique-written, fits-written}
+use Rattle.id_bank.proofs.SlotsLemmas.{state_at-entry, state_at-written, others-written, unique-written}
 use Rattle.id_bank.proofs.page.read_at.Goals as goal
 
 pub returns-clause-answer : goal.returns-clause-answer
@@ -42,10 +42,6 @@ returns-clause-err c =
 pub returns-clause-unique : goal.returns-clause-unique
 returns-clause-unique c = unique-written c.reach_page.new.pages c.reach_page.ensures.unique c.in_ok-i.i c.args.page _ _ c.read_in.new.slots
     c.in_ok-i.ensures.found c.pair_mut-slots.ensures.value
-
-pub returns-clause-fits : goal.returns-clause-fits
-returns-clause-fits c = λ all. fits-written c.reach_page.new.pages c.reach_page.ensures.unique c.in_ok-i.i c.args.page _ _ c.read_in.new.slots
-    c.in_ok-i.ensures.found c.pair_mut-slots.ensures.value (c.reach_page.ensures.fits all)
 
 pub returns-clause-grows : goal.returns-clause-grows
 returns-clause-grows c =
