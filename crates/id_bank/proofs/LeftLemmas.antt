@@ -11,11 +11,13 @@ use Rattle.id_tag.specs.declared.Structure.{Structure}
 use Rattle.id_bank.specs.declared.slot.Slot.{Slot}
 use Rattle.id_bank.specs.declared.cell.Filled.{Filled}
 use Rattle.id_bank.specs.Cells.{CellState, Present, Deferred, count_expected, filled_at}
-use Rattle.id_bank.specs.Slots.{cell_in, state_in, entry_at, cells_below, cells_above, cells_left, page_cells, cells_in, filled_by}
+use Rattle.id_bank.specs.Slots.{cell_in, state_in, entry_at, cells_below, cells_above, cells_left, page_cells, cells_in}
+use Rattle.id_bank.specs.Slots.{filled_by}
 use Rattle.id_bank.proofs.SlotsLemmas.{cells_below-none, cells_below-next}
 
 -- the first places and the others are all
-whole : (n : ℕ) (p : ℤ × Structure) (ss : List Slot) → n ≤ 8 → cells_below (8 - n) p ss ++ cells_above n p ss ≡ cells_below 8 p ss
+whole : (n : ℕ) (p : ℤ × Structure) (ss : List Slot) → n ≤ 8
+    → cells_below (8 - n) p ss ++ cells_above n p ss ≡ cells_below 8 p ss
 unfolding cells_below cells_above
 whole zero p ss h = append-nil (cells_below 8 p ss)
 whole (suc n) p ss h =
@@ -34,19 +36,22 @@ cells_above-all p ss = whole 8 p ss (omega arith)
 -- all cells are still to come at the start of a page
 pub cells_left-all : (es : List ((ℤ × Structure) × Vec Slot Global)) → cells_left 8 es ≡ cells_in es
 cells_left-all [] = refl
-cells_left-all (e ∷ es) = ap (λ l. l ++ cells_in es) (cells_above-all e.0 e.1.items) ∙ sym (flat_map-cons page_cells e es)
+cells_left-all (e ∷ es) =
+    ap (λ l. l ++ cells_in es) (cells_above-all e.0 e.1.items) ∙ sym (flat_map-cons page_cells e es)
 
 -- and none of it at its end
-pub cells_left-none : (e : (ℤ × Structure) × Vec Slot Global) (es : List ((ℤ × Structure) × Vec Slot Global)) → cells_left 0 (e ∷ es) ≡ cells_left 8 es
+pub cells_left-none : (e : (ℤ × Structure) × Vec Slot Global) (es : List ((ℤ × Structure) × Vec Slot Global))
+    → cells_left 0 (e ∷ es) ≡ cells_left 8 es
 unfolding cells_above
 cells_left-none e es = sym (cells_left-all es)
 
 -- a cell that holds a value comes first
-pub some_left : (n k : ℕ) (e : (ℤ × Structure) × Vec Slot Global) (es : List ((ℤ × Structure) × Vec Slot Global)) (f : Filled)
-    → k ≡ 7 - n → filled_by (cell_in e.0 k) (state_in e.1.items k) ≡ Some f
+pub some_left : (n k : ℕ) (e : (ℤ × Structure) × Vec Slot Global) (es : List ((ℤ × Structure) × Vec Slot Global))
+    (f : Filled) → k ≡ 7 - n → filled_by (cell_in e.0 k) (state_in e.1.items k) ≡ Some f
     → flat_map filled_at (cells_left (suc n) (e ∷ es)) ≡ f ∷ flat_map filled_at (cells_left n (e ∷ es))
 unfolding cells_above
-some_left n k e es f at is = first (state_in e.1.items (7 - n)) (subst (λ j. filled_by (cell_in e.0 j) (state_in e.1.items j) ≡ Some f) at is)
+some_left n k e es f at is =
+    first (state_in e.1.items (7 - n)) (subst (λ j. filled_by (cell_in e.0 j) (state_in e.1.items j) ≡ Some f) at is)
   where
     first : (o : Option CellState) → filled_by (cell_in e.0 (7 - n)) o ≡ Some f
         → flat_map filled_at ((entry_at (cell_in e.0 (7 - n)) o ++ cells_above n e.0 e.1.items) ++ cells_in es) ≡ f ∷
@@ -60,7 +65,8 @@ pub none_left : (n k : ℕ) (e : (ℤ × Structure) × Vec Slot Global) (es : Li
     → k ≡ 7 - n → filled_by (cell_in e.0 k) (state_in e.1.items k) ≡ None
     → flat_map filled_at (cells_left (suc n) (e ∷ es)) ≡ flat_map filled_at (cells_left n (e ∷ es))
 unfolding cells_above
-none_left n k e es at is = second (state_in e.1.items (7 - n)) (subst (λ j. filled_by (cell_in e.0 j) (state_in e.1.items j) ≡ None) at is)
+none_left n k e es at is =
+    second (state_in e.1.items (7 - n)) (subst (λ j. filled_by (cell_in e.0 j) (state_in e.1.items j) ≡ None) at is)
   where
     second : (o : Option CellState) → filled_by (cell_in e.0 (7 - n)) o ≡ None
         → flat_map filled_at ((entry_at (cell_in e.0 (7 - n)) o ++ cells_above n e.0 e.1.items) ++ cells_in es) ≡
@@ -76,10 +82,12 @@ one_more i = omega arith
 
 module _ {A : Type 0} (show : A → (ℤ × Structure) × Vec Slot Global) where
   -- those from one on are it and those behind it
-  at_page : (xs : List A) (i : ℕ) (x : A) → i < length xs → get_or xs i x ≡ x → map show (drop i xs) ≡ show x ∷ map show (drop (i + 1) xs)
+  at_page : (xs : List A) (i : ℕ) (x : A) → i < length xs → get_or xs i x ≡ x
+      → map show (drop i xs) ≡ show x ∷ map show (drop (i + 1) xs)
   at_page [] i x h is = absurd (omega arith)
   at_page (y ∷ xs) zero x h is = ap (λ z. show z ∷ map show xs) is
-  at_page (y ∷ xs) (suc i) x h is = at_page xs i x (omega arith) is ∙ ap (λ k. show x ∷ map show (drop k (y ∷ xs))) (one_more i)
+  at_page (y ∷ xs) (suc i) x h is =
+      at_page xs i x (omega arith) is ∙ ap (λ k. show x ∷ map show (drop k (y ∷ xs))) (one_more i)
 
   lowered : (n : ℕ) → 0 < n → suc (n - 1) ≡ n
   lowered n h = omega arith
@@ -87,7 +95,8 @@ module _ {A : Type 0} (show : A → (ℤ × Structure) × Vec Slot Global) where
   -- the next cell of the page at hand holds a value
   pub some_at : (xs : List A) (i n k : ℕ) (x : A) (f : Filled) → i < length xs → get_or xs i x ≡ x → 0 < n → k ≡ 8 - n
       → filled_by (cell_in (show x).0 k) (state_in (show x).1.items k) ≡ Some f
-      → flat_map filled_at (cells_left n (map show (drop i xs))) ≡ f ∷ flat_map filled_at (cells_left (n - 1) (map show (drop i xs)))
+      → flat_map filled_at (cells_left n (map show (drop i xs))) ≡ f
+      ∷ flat_map filled_at (cells_left (n - 1) (map show (drop i xs)))
   some_at xs i n k x f h is some place there =
       let pages = at_page xs i x h is in
       ap (λ es. flat_map filled_at (cells_left n es)) pages
@@ -98,7 +107,8 @@ module _ {A : Type 0} (show : A → (ℤ × Structure) × Vec Slot Global) where
   -- or none
   pub none_at : (xs : List A) (i n k : ℕ) (x : A) → i < length xs → get_or xs i x ≡ x → 0 < n → k ≡ 8 - n
       → filled_by (cell_in (show x).0 k) (state_in (show x).1.items k) ≡ None
-      → flat_map filled_at (cells_left n (map show (drop i xs))) ≡ flat_map filled_at (cells_left (n - 1) (map show (drop i xs)))
+      → flat_map filled_at (cells_left n (map show (drop i xs)))
+      ≡ flat_map filled_at (cells_left (n - 1) (map show (drop i xs)))
   none_at xs i n k x h is some place there =
       let pages = at_page xs i x h is in
       ap (λ es. flat_map filled_at (cells_left n es)) pages
@@ -107,34 +117,41 @@ module _ {A : Type 0} (show : A → (ℤ × Structure) × Vec Slot Global) where
       ∙ ap (λ es. flat_map filled_at (cells_left (n - 1) es)) (sym pages)
 
   -- the page at hand has no more places
-  pub next_page : (xs : List A) (i n : ℕ) → i < length xs → (n ≡ 0) → cells_left n (map show (drop i xs)) ≡ cells_left 8 (map show (drop (i + 1) xs))
+  pub next_page : (xs : List A) (i n : ℕ) → i < length xs → (n ≡ 0)
+      → cells_left n (map show (drop i xs)) ≡ cells_left 8 (map show (drop (i + 1) xs))
   next_page [] i n h none = absurd (omega arith)
-  next_page (y ∷ xs) zero n h none = ap (λ m. cells_left m (show y ∷ map show xs)) none ∙ cells_left-none (show y) (map show xs)
-  next_page (y ∷ xs) (suc i) n h none = next_page xs i n (omega arith) none ∙ ap (λ k. cells_left 8 (map show (drop k (y ∷ xs)))) (one_more i)
+  next_page (y ∷ xs) zero n h none =
+      ap (λ m. cells_left m (show y ∷ map show xs)) none ∙ cells_left-none (show y) (map show xs)
+  next_page (y ∷ xs) (suc i) n h none =
+      next_page xs i n (omega arith) none ∙ ap (λ k. cells_left 8 (map show (drop k (y ∷ xs)))) (one_more i)
 
 -- ---- how many are still to come
 
 count_filled-append : (xs ys : List (Cell × CellState)) →
     length (flat_map filled_at (xs ++ ys)) ≡ length (flat_map filled_at xs) + length (flat_map filled_at ys)
-count_filled-append xs ys = ap length (flat_map-append filled_at xs ys) ∙ length-append (flat_map filled_at xs) (flat_map filled_at ys)
+count_filled-append xs ys =
+    ap length (flat_map-append filled_at xs ys) ∙ length-append (flat_map filled_at xs) (flat_map filled_at ys)
 
 -- a page has none at its first 0 places
 pub filled-none : (p : ℤ × Structure) (ss : List Slot) → 0 ≡ length (flat_map filled_at (cells_below 0 p ss))
 filled-none p ss = ap (λ es. length (flat_map filled_at es)) (sym (cells_below-none p ss))
 
-one_filled : (c : Cell) (o : Option CellState) → count_expected o ≡ None → length (flat_map filled_at (entry_at c o)) ≡ 1
+one_filled : (c : Cell) (o : Option CellState) → count_expected o ≡ None
+    → length (flat_map filled_at (entry_at c o)) ≡ 1
 one_filled c None is = cc
 one_filled c (Some (Present v w)) is = refl
 one_filled c (Some (Deferred ts)) is = cc
 
-none_filled : (c : Cell) (o : Option CellState) → (count_expected o ≡ None → ⊥) → length (flat_map filled_at (entry_at c o)) ≡ 0
+none_filled : (c : Cell) (o : Option CellState) → (count_expected o ≡ None → ⊥)
+    → length (flat_map filled_at (entry_at c o)) ≡ 0
 none_filled c None other = refl
 none_filled c (Some (Present v w)) other = absurd (other refl)
 none_filled c (Some (Deferred ts)) other = refl
 
 -- and one more where the next place has a cell that holds a value
 pub filled-next : (n m : ℕ) (p : ℤ × Structure) (ss : List Slot) → count_expected (state_in ss n) ≡ None
-    → m ≡ length (flat_map filled_at (cells_below n p ss)) → m + 1 ≡ length (flat_map filled_at (cells_below (n + 1) p ss))
+    → m ≡ length (flat_map filled_at (cells_below n p ss))
+    → m + 1 ≡ length (flat_map filled_at (cells_below (n + 1) p ss))
 filled-next n m p ss is so =
     let here = entry_at (cell_in p n) (state_in ss n) in
     ap (λ k. k + 1) so
@@ -156,13 +173,15 @@ filled-same n m p ss other so =
     plus_none m k h = omega arith
 
 -- where the first of them leaves, one fewer is left
-pub one_fewer : {A : Type 0} (m : ℕ) (xs ys : List A) (x : A) → xs ≡ x ∷ ys → m ≡ length xs → (1 ≤ m) × (m - 1 ≡ length ys)
+pub one_fewer : {A : Type 0} (m : ℕ) (xs ys : List A) (x : A) → xs ≡ x ∷ ys → m ≡ length xs
+    → (1 ≤ m) × (m - 1 ≡ length ys)
 one_fewer m xs ys x is so = let e : m ≡ suc (length ys) = so ∙ ap length is in (omega arith, omega arith)
 
 module _ {A : Type 0} (show : A → (ℤ × Structure) × Vec Slot Global) where
   -- the next page adds its own
   pub filled-more : (xs : List A) (i m k : ℕ) (x : A) → i < length xs → get_or xs i x ≡ x
-      → m ≡ length (flat_map filled_at (flat_map (λ e. page_cells (show e)) (take i xs))) → k ≡ length (flat_map filled_at (page_cells (show x)))
+      → m ≡ length (flat_map filled_at (flat_map (λ e. page_cells (show e)) (take i xs)))
+      → k ≡ length (flat_map filled_at (page_cells (show x)))
       → m + k ≡ length (flat_map filled_at (flat_map (λ e. page_cells (show e)) (take (i + 1) xs)))
   filled-more xs i m k x h is before here =
       let cells = λ (e : A). page_cells (show e) in

@@ -84,7 +84,8 @@ same_page_laws =
     record {
       refl = λ p. page_cell p p ∙ laws.refl (named p);
       symm = λ p q. page_cell p q ∙ laws.symm (named p) (named q) ∙ sym (page_cell q p);
-      congr = λ p q r h. page_cell p r ∙ laws.congr (named p) (named q) (named r) (sym (page_cell p q) ∙ h) ∙ sym (page_cell q r);
+      congr = λ p q r h. page_cell p r ∙ laws.congr (named p) (named q) (named r) (sym (page_cell p q) ∙ h)
+          ∙ sym (page_cell q r);
     }
 
 -- pages that pass it are one
@@ -135,7 +136,8 @@ own_cell : (c : Cell) → eq_by_cmp cell_cmp c c ≡ true
 own_cell c = (eq_by_cmp_equiv cells_total).refl c
 
 -- the test of cells is that of their pages and places
-ties-cell_in : (c : Cell) (p : ℤ × Structure) (k : ℕ) → k < 8 → eq_by_cmp cell_cmp c (cell_in p k) ≡ (same_page (page_of c) p && nat_eq (offset_of c) k)
+ties-cell_in : (c : Cell) (p : ℤ × Structure) (k : ℕ) → k < 8
+    → eq_by_cmp cell_cmp c (cell_in p k) ≡ (same_page (page_of c) p && nat_eq (offset_of c) k)
 ties-cell_in c p k h =
     alike _ _
     (λ e. let one : c ≡ cell_in p k = one_cell (cell_in p k) c e in
@@ -152,12 +154,14 @@ or_else : {X : Type 0} → Option X → Option X → Option X
 or_else None r = r
 or_else (Some x) r = Some x
 
-chosen : {X : Type 0} (b : Bool) (x : X) (o r : Option X) → cond b (Some x) (or_else o r) ≡ or_else (cond b (Some x) o) r
+chosen : {X : Type 0} (b : Bool) (x : X) (o r : Option X)
+    → cond b (Some x) (or_else o r) ≡ or_else (cond b (Some x) o) r
 unfolding or_else
 chosen true x o r = refl
 chosen false x o r = refl
 
-find-append : (c : Cell) (xs ys : List (Cell × CellState)) → find cell_cmp c (xs ++ ys) ≡ or_else (find cell_cmp c xs) (find cell_cmp c ys)
+find-append : (c : Cell) (xs ys : List (Cell × CellState))
+    → find cell_cmp c (xs ++ ys) ≡ or_else (find cell_cmp c xs) (find cell_cmp c ys)
 unfolding or_else
 find-append c [] ys = refl
 find-append c (x ∷ xs) ys =
@@ -168,7 +172,8 @@ same_none : (b : Bool) → ◌≡◌ {A = Option CellState} None (cond b None No
 same_none true = refl
 same_none false = refl
 
-find-entry_at : (c d : Cell) (o : Option CellState) → find cell_cmp c (entry_at d o) ≡ cond (eq_by_cmp cell_cmp c d) o None
+find-entry_at : (c d : Cell) (o : Option CellState)
+    → find cell_cmp c (entry_at d o) ≡ cond (eq_by_cmp cell_cmp c d) o None
 find-entry_at c d None = same_none (eq_by_cmp cell_cmp c d)
 find-entry_at c d (Some s) = refl
 
@@ -189,7 +194,8 @@ one_more f o n false false true p q w = absurd (grind (arith, nat_tests))
 one_more f o n false false false p q w = refl
 
 one_place : (b : Bool) (f : ℕ → Option CellState) (o n : ℕ)
-    → or_else (cond (b && nat_lt o n) (f o) None) (cond (b && nat_eq o n) (f n) None) ≡ cond (b && nat_lt o (suc n)) (f o) None
+    → or_else (cond (b && nat_lt o n) (f o) None) (cond (b && nat_eq o n) (f n) None)
+    ≡ cond (b && nat_lt o (suc n)) (f o) None
 unfolding or_else
 one_place true f o n = one_more f o n (nat_lt o n) (nat_eq o n) (nat_lt o (suc n)) refl refl refl
 one_place false f o n = refl
@@ -202,14 +208,17 @@ no_place true o x = ap (λ r. cond r x None) (sym none)
 no_place false o x = refl
 
 find-cells_below : (c : Cell) (p : ℤ × Structure) (ss : List Slot) (n : ℕ) → n ≤ 8
-    → find cell_cmp c (cells_below n p ss) ≡ cond (same_page (page_of c) p && nat_lt (offset_of c) n) (state_in ss (offset_of c)) None
+    → find cell_cmp c (cells_below n p ss)
+    ≡ cond (same_page (page_of c) p && nat_lt (offset_of c) n) (state_in ss (offset_of c)) None
 unfolding cells_below
 find-cells_below c p ss zero h = no_place (same_page (page_of c) p) (offset_of c) (state_in ss (offset_of c))
 find-cells_below c p ss (suc n) h =
     find-append c (cells_below n p ss) (entry_at (cell_in p n) (state_in ss n))
-    ∙ ap (λ o. or_else o (find cell_cmp c (entry_at (cell_in p n) (state_in ss n)))) (find-cells_below c p ss n (omega arith))
+    ∙ ap (λ o. or_else o (find cell_cmp c (entry_at (cell_in p n) (state_in ss n))))
+    (find-cells_below c p ss n (omega arith))
     ∙ ap (or_else (cond (same_page (page_of c) p && nat_lt (offset_of c) n) (state_in ss (offset_of c)) None))
-    (find-entry_at c (cell_in p n) (state_in ss n) ∙ ap (λ b. cond b (state_in ss n) None) (ties-cell_in c p n (omega arith)))
+    (find-entry_at c (cell_in p n) (state_in ss n)
+    ∙ ap (λ b. cond b (state_in ss n) None) (ties-cell_in c p n (omega arith)))
     ∙ one_place (same_page (page_of c) p) (state_in ss) (offset_of c) n
 
 whole : (b r : Bool) (x : Option CellState) → r ≡ true → cond (b && r) x None ≡ cond b x None
@@ -224,18 +233,22 @@ find-page_cells c e =
     ∙ whole (same_page (page_of c) e.0) (nat_lt (offset_of c) 8) (state_in e.1.items (offset_of c))
     (let h : offset_of c < 8 = below_8 c.index in grind (arith, nat_tests))
 
-absent : (p : ℤ × Structure) (es : List ((ℤ × Structure) × Vec Slot Global)) → AllByRecursion (λ q. same_page p q ≡ false) (keys_of es)
+absent : (p : ℤ × Structure) (es : List ((ℤ × Structure) × Vec Slot Global))
+    → AllByRecursion (λ q. same_page p q ≡ false) (keys_of es)
     → lookup (same_page p) es ≡ None
 absent p [] h = refl
 absent p (e ∷ es) h = ap (λ b. cond b (Some e.1) (lookup (same_page p) es)) h.0 ∙ absent p es h.1
 
-first_page : (p : ℤ × Structure) (k : ℕ) (e : (ℤ × Structure) × Vec Slot Global) (es : List ((ℤ × Structure) × Vec Slot Global))
+first_page : (p : ℤ × Structure) (k : ℕ) (e : (ℤ × Structure)
+    × Vec Slot Global) (es : List ((ℤ × Structure) × Vec Slot Global))
     → AllByRecursion (λ q. same_page e.0 q ≡ false) (keys_of es) → (b : Bool) → same_page p e.0 ≡ b
-    → or_else (cond b (state_in e.1.items k) None) (state_at es p k) ≡ option_and_then (λ v. state_in v.items k) (cond b (Some e.1) (lookup (same_page p) es))
+    → or_else (cond b (state_in e.1.items k) None) (state_at es p k)
+    ≡ option_and_then (λ v. state_in v.items k) (cond b (Some e.1) (lookup (same_page p) es))
 unfolding or_else
 first_page p k e es apart true is =
     ap (or_else (state_in e.1.items k))
-    (ap (λ q. state_at es q k) (one_page p e.0 is) ∙ ap (option_and_then (λ v. state_in v.items k)) (absent e.0 es apart))
+    (ap (λ q. state_at es q k) (one_page p e.0 is)
+    ∙ ap (option_and_then (λ v. state_in v.items k)) (absent e.0 es apart))
     ∙ or_else-none (state_in e.1.items k)
 first_page p k e es apart false is = refl
 
@@ -247,22 +260,24 @@ find-cells_in c (e ∷ es) unique =
     ap (find cell_cmp c) (flat_map-cons page_cells e es)
     ∙ find-append c (page_cells e) (cells_in es)
     ∙ ap (λ o. or_else o (find cell_cmp c (cells_in es))) (find-page_cells c e)
-    ∙ ap (or_else (cond (same_page (page_of c) e.0) (state_in e.1.items (offset_of c)) None)) (find-cells_in c es unique.1)
-    ∙ first_page (page_of c) (offset_of c) e es unique.0 (same_page (page_of c) e.0) refl
+    ∙ ap (or_else (cond (same_page (page_of c) e.0) (state_in e.1.items (offset_of c)) None))
+    (find-cells_in c es unique.1) ∙ first_page (page_of c) (offset_of c) e es unique.0 (same_page (page_of c) e.0) refl
 
 -- what the map that the pages make has at a cell
 get_state : (es : List ((ℤ × Structure) × Vec Slot Global)) → IsDistinct same_page (keys_of es) → (c : Cell)
     → get (from_entries {R = cell_cmp} (cells_in es)) c ≡ state_at es (page_of c) (offset_of c)
 get_state es unique c = get-from_entries cells_total (cells_in es) c ∙ find-cells_in c es unique
 
-cells_apart : (c d : Cell) → eq_by_cmp cell_cmp d c ≡ false → (same_page (page_of c) (page_of d) && nat_eq (offset_of c) (offset_of d)) ≡ false
+cells_apart : (c d : Cell) → eq_by_cmp cell_cmp d c ≡ false
+    → (same_page (page_of c) (page_of d) && nat_eq (offset_of c) (offset_of d)) ≡ false
 cells_apart c d h =
     sym (ties-cell_in c (page_of d) (offset_of d) (below_8 d.index)) ∙ ap (eq_by_cmp cell_cmp c) (cell_in-page_of d)
     ∙ (eq_by_cmp_equiv cells_total).symm c d ∙ h
 
 -- ---- a change at one cell
 
-module _ (es : List ((ℤ × Structure) × Vec Slot Global)) (unique : IsDistinct same_page (keys_of es)) (s : Cells) (is : from_entries (cells_in es) ≡ s)
+module _ (es : List ((ℤ × Structure) × Vec Slot Global)) (unique : IsDistinct same_page (keys_of es)) (s : Cells)
+    (is : from_entries (cells_in es) ≡ s)
     (c : Cell) (p : ℤ × Structure) (page : p ≡ page_of c) (k : ℕ) (place : k ≡ offset_of c) where
   -- what the map that pages make has at the cell
   get_page : (fs : List ((ℤ × Structure) × Vec Slot Global)) → IsDistinct same_page (keys_of fs) →
@@ -274,7 +289,8 @@ module _ (es : List ((ℤ × Structure) × Vec Slot Global)) (unique : IsDistinc
   at_cell = ap (λ r. get r c) (sym is) ∙ get_page es unique
 
   module _ (fs : List ((ℤ × Structure) × Vec Slot Global)) (u : IsDistinct same_page (keys_of fs))
-      (others : (q : ℤ × Structure) (l : ℕ) → (same_page p q && nat_eq k l) ≡ false → state_at fs q l ≡ state_at es q l) where
+      (others : (q : ℤ × Structure) (l : ℕ) → (same_page p q && nat_eq k l) ≡ false
+      → state_at fs q l ≡ state_at es q l) where
     abbrev after : Cells
     after = from_entries (cells_in fs)
 
@@ -285,7 +301,8 @@ module _ (es : List ((ℤ × Structure) × Vec Slot Global)) (unique : IsDistinc
         ∙ ap (λ l. same_page (page_of c) (page_of d) && nat_eq l (offset_of d)) place ∙ cells_apart c d apart)
         ∙ sym (get_state es unique d) ∙ ap (λ r. get r d) is
 
-    with_new : (x : CellState) → state_at fs p k ≡ Some x → (d : Cell) (b : Bool) → eq_by_cmp cell_cmp d c ≡ b → get after d ≡ cond b (Some x) (get s d)
+    with_new : (x : CellState) → state_at fs p k ≡ Some x → (d : Cell) (b : Bool) → eq_by_cmp cell_cmp d c ≡ b
+        → get after d ≡ cond b (Some x) (get s d)
     with_new x here d true e = ap (get after) (one_cell c d e) ∙ get_page fs u ∙ here
     with_new x here d false e = elsewhere d e
 
@@ -294,25 +311,30 @@ module _ (es : List ((ℤ × Structure) × Vec Slot Global)) (unique : IsDistinc
         same_map cells_total exact_cells after (insert s c x)
         (λ d. with_new x here d (eq_by_cmp cell_cmp d c) refl ∙ sym (get-insert cells_total s c x d))
 
-    with_old : state_at fs p k ≡ state_at es p k → (d : Cell) (b : Bool) → eq_by_cmp cell_cmp d c ≡ b → get after d ≡ get s d
-    with_old here d true e = ap (get after) (one_cell c d e) ∙ get_page fs u ∙ here ∙ sym at_cell ∙ ap (get s) (sym (one_cell c d e))
+    with_old : state_at fs p k ≡ state_at es p k → (d : Cell) (b : Bool) → eq_by_cmp cell_cmp d c ≡ b
+        → get after d ≡ get s d
+    with_old here d true e =
+        ap (get after) (one_cell c d e) ∙ get_page fs u ∙ here ∙ sym at_cell ∙ ap (get s) (sym (one_cell c d e))
     with_old here d false e = elsewhere d e
 
     -- a call that puts something at the cell's place changes the map so
     pub insert-from_pages : {A : Type 0} (r : Result A AllocError) (f : Option CellState → CellState)
-        → OnOk r (state_at fs p k ≡ Some (f (state_at es p k))) → OnOk r (from_entries (cells_in fs) ≡ insert s c (f (get s c)))
+        → OnOk r (state_at fs p k ≡ Some (f (state_at es p k)))
+        → OnOk r (from_entries (cells_in fs) ≡ insert s c (f (get s c)))
     insert-from_pages (Ok a) f here = inserted (f (get s c)) (here ∙ ap (λ o. Some (f o)) (sym at_cell))
     insert-from_pages (Err e) f here = tt
 
     -- one that leaves what is there leaves the map
-    pub same-from_pages : {A : Type 0} (r : Result A AllocError) → OnErr r (state_at fs p k ≡ state_at es p k) → OnErr r (from_entries (cells_in fs) ≡ s)
+    pub same-from_pages : {A : Type 0} (r : Result A AllocError) → OnErr r (state_at fs p k ≡ state_at es p k)
+        → OnErr r (from_entries (cells_in fs) ≡ s)
     same-from_pages (Ok a) here = tt
-    same-from_pages (Err e) here = same_map cells_total exact_cells after s (λ d. with_old here d (eq_by_cmp cell_cmp d c) refl)
+    same-from_pages (Err e) here =
+        same_map cells_total exact_cells after s (λ d. with_old here d (eq_by_cmp cell_cmp d c) refl)
 
 -- ---- the slots of a page by its place
 
-pairs : (q : ℤ × Structure) (w : Vec Slot Global) (p : ℤ × Structure) (v : Vec Slot Global) → Some q ≡ Some p → Some w ≡ Some v
-    → ◌≡◌ {A = Option ((ℤ × Structure) × Vec Slot Global)} (Some (q, w)) (Some (p, v))
+pairs : (q : ℤ × Structure) (w : Vec Slot Global) (p : ℤ × Structure) (v : Vec Slot Global) → Some q ≡ Some p
+    → Some w ≡ Some v → ◌≡◌ {A = Option ((ℤ × Structure) × Vec Slot Global)} (Some (q, w)) (Some (p, v))
 pairs q w p v h g = cc
 
 both_at : (es : List ((ℤ × Structure) × Vec Slot Global)) (i : ℕ) (p : ℤ × Structure) (v : Vec Slot Global)
@@ -326,15 +348,17 @@ pub state_at-place : (es : List ((ℤ × Structure) × Vec Slot Global)) → IsD
     (i : ℕ) (p : ℤ × Structure) (v : Vec Slot Global) (k : ℕ)
     → slice_get (keys_of es) i ≡ Some p → slice_get (values_of es) i ≡ Some v → state_at es p k ≡ state_in v.items k
 state_at-place es unique i p v k h g =
-    ap (option_and_then (λ w. state_in w.items k)) (lookup_from_place same_page_laws es i p v unique (both_at es i p v h g))
+    ap (option_and_then (λ w. state_in w.items k))
+    (lookup_from_place same_page_laws es i p v unique (both_at es i p v h g))
 
 -- one that is not there has none
-pub state_at-none : (es : List ((ℤ × Structure) × Vec Slot Global)) (p : ℤ × Structure) (k : ℕ) → lookup (same_page p) es ≡ None → state_at es p k ≡ None
+pub state_at-none : (es : List ((ℤ × Structure) × Vec Slot Global)) (p : ℤ × Structure) (k : ℕ)
+    → lookup (same_page p) es ≡ None → state_at es p k ≡ None
 state_at-none es p k h = ap (option_and_then (λ w. state_in w.items k)) h
 
 -- the place of the first key that passes the test for a page is the page's
-pub place_from_position : (p : ℤ × Structure) (es : List ((ℤ × Structure) × Vec Slot Global)) (r : Option ℕ) → r ≡ position (same_page p) (keys_of es)
-    → IfSome r (λ i. slice_get (keys_of es) i ≡ Some p)
+pub place_from_position : (p : ℤ × Structure) (es : List ((ℤ × Structure) × Vec Slot Global)) (r : Option ℕ)
+    → r ≡ position (same_page p) (keys_of es) → IfSome r (λ i. slice_get (keys_of es) i ≡ Some p)
 place_from_position p es None is = tt
 place_from_position p es (Some i) is =
     let at = position-Some (same_page p) (keys_of es) i p (sym is) in
@@ -351,7 +375,8 @@ pub cells_below-none : (p : ℤ × Structure) (ss : List Slot) → cells_below 0
 unfolding cells_below
 cells_below-none p ss = refl
 
-pub cells_below-next : (n : ℕ) (p : ℤ × Structure) (ss : List Slot) → cells_below (n + 1) p ss ≡ cells_below n p ss ++ entry_at (cell_in p n) (state_in ss n)
+pub cells_below-next : (n : ℕ) (p : ℤ × Structure) (ss : List Slot)
+    → cells_below (n + 1) p ss ≡ cells_below n p ss ++ entry_at (cell_in p n) (state_in ss n)
 unfolding cells_below
 cells_below-next n p ss = ap (λ m. cells_below m p ss) (next n)
   where
@@ -384,7 +409,8 @@ at_or_below k n P h below here = by (nat_eq k n) refl
     by true is = subst P (sym (nat_same k n is)) here
     by false is = below k (grind (arith, nat_tests))
 
-from_below : (n : ℕ) (p : ℤ × Structure) (ss : List Slot) → cells_below n p ss ≡ [] → (k : ℕ) → k < n → state_in ss k ≡ None
+from_below : (n : ℕ) (p : ℤ × Structure) (ss : List Slot) → cells_below n p ss ≡ [] → (k : ℕ) → k < n
+    → state_in ss k ≡ None
 unfolding cells_below
 from_below zero p ss e k h = absurd (omega arith)
 from_below (suc n) p ss e k h =
@@ -392,17 +418,22 @@ from_below (suc n) p ss e k h =
     (from_below n p ss (nil_left (cells_below n p ss) (entry_at (cell_in p n) (state_in ss n)) e))
     (none_at (cell_in p n) (state_in ss n) (nil_right (cells_below n p ss) (entry_at (cell_in p n) (state_in ss n)) e))
 
-none_in : (es : List ((ℤ × Structure) × Vec Slot Global)) → AllByRecursion (λ e. HasNone e.1.items) es → cells_in es ≡ []
+none_in : (es : List ((ℤ × Structure) × Vec Slot Global)) → AllByRecursion (λ e. HasNone e.1.items) es
+    → cells_in es ≡ []
 none_in [] all = refl
 none_in (e ∷ es) all =
-    flat_map-cons page_cells e es ∙ ap (λ l. l ++ cells_in es) (none_below 8 e.0 e.1.items (omega arith) all.0) ∙ none_in es all.1
+    flat_map-cons page_cells e es ∙ ap (λ l. l ++ cells_in es) (none_below 8 e.0 e.1.items (omega arith) all.0)
+    ∙ none_in es all.1
 
-from_in : (es : List ((ℤ × Structure) × Vec Slot Global)) → cells_in es ≡ [] → AllByRecursion (λ e. HasNone e.1.items) es
+from_in : (es : List ((ℤ × Structure) × Vec Slot Global)) → cells_in es ≡ []
+    → AllByRecursion (λ e. HasNone e.1.items) es
 unfolding HasNone
 from_in [] h = tt
 from_in (e ∷ es) h =
-    let both : page_cells e ++ cells_in es ≡ [] = sym (flat_map-cons page_cells e es) ∙ h in
-    (from_below 8 e.0 e.1.items (nil_left (page_cells e) (cells_in es) both), from_in es (nil_right (page_cells e) (cells_in es) both))
+    let both : page_cells e ++ cells_in es ≡ [] = sym (flat_map-cons page_cells e es) ∙ h in (
+      from_below 8 e.0 e.1.items (nil_left (page_cells e) (cells_in es) both),
+      from_in es (nil_right (page_cells e) (cells_in es) both),
+    )
 
 some_none : {X : Type 0} {x : X} → Some x ≡ None → ⊥
 some_none e = cc
@@ -421,17 +452,20 @@ pub empty-from_none : (es : List ((ℤ × Structure) × Vec Slot Global)) → Al
 empty-from_none es all = ap (λ l. from_entries {R = cell_cmp} l) (none_in es all)
 
 -- and only they do
-pub none-from_pages : (es : List ((ℤ × Structure) × Vec Slot Global)) → from_entries {R = cell_cmp} (cells_in es) ≡ empty →
+pub none-from_pages : (es : List ((ℤ × Structure) × Vec Slot Global))
+    → from_entries {R = cell_cmp} (cells_in es) ≡ empty →
     AllByRecursion (λ e. HasNone e.1.items) es
 none-from_pages es e = from_in es (none-from_empty (cells_in es) e)
 
 -- ---- no replies
 
-pub all_append : {X : Type 0} (P : X → Type 0) (xs ys : List X) → AllByRecursion P xs → AllByRecursion P ys → AllByRecursion P (xs ++ ys)
+pub all_append : {X : Type 0} (P : X → Type 0) (xs ys : List X) → AllByRecursion P xs → AllByRecursion P ys
+    → AllByRecursion P (xs ++ ys)
 all_append P [] ys h g = g
 all_append P (x ∷ xs) ys h g = (h.0, all_append P xs ys h.1 g)
 
-pub all_weaker : {X : Type 0} (P Q : X → Type 0) → ((x : X) → P x → Q x) → (xs : List X) → AllByRecursion P xs → AllByRecursion Q xs
+pub all_weaker : {X : Type 0} (P Q : X → Type 0) → ((x : X) → P x → Q x) → (xs : List X) → AllByRecursion P xs
+    → AllByRecursion Q xs
 all_weaker P Q f [] h = tt
 all_weaker P Q f (x ∷ xs) h = (f x h.0, all_weaker P Q f xs h.1)
 
@@ -444,7 +478,8 @@ readers_at-none c (Deferred (t ∷ ts)) none = absurd (omega (arith, none))
 abbrev NoneWait : List (Cell × CellState) → Type 0
 NoneWait es = AllByRecursion (λ e. count_readers (Some e.1) ≡ 0) es
 
-NoneWait-put : (k : Cell) (s : CellState) (es : List (Cell × CellState)) → count_readers (Some s) ≡ 0 → NoneWait es → NoneWait (put cell_cmp k s es)
+NoneWait-put : (k : Cell) (s : CellState) (es : List (Cell × CellState)) → count_readers (Some s) ≡ 0 → NoneWait es
+    → NoneWait (put cell_cmp k s es)
 NoneWait-put k s [] none all = (none, tt)
 NoneWait-put k s (e ∷ es) none all =
     elim (cell_cmp k e.0) as (λ o. NoneWait (by_order o ((k, s) ∷ e ∷ es) ((e.0, s) ∷ es) (e ∷ put cell_cmp k s es))) [
@@ -454,7 +489,8 @@ NoneWait-put k s (e ∷ es) none all =
     ]
 
 NoneWait-entries : (es : List (Cell × CellState)) → NoneWait es → NoneWait (entries (from_entries {R = cell_cmp} es))
-NoneWait-entries [] all = subst NoneWait (sym (no_entries (entries empty) (sym (len-entries empty) ∙ len-empty cell_cmp CellState))) tt
+NoneWait-entries [] all =
+    subst NoneWait (sym (no_entries (entries empty) (sym (len-entries empty) ∙ len-empty cell_cmp CellState))) tt
   where
     no_entries : (fs : List (Cell × CellState)) → length fs ≡ 0 → fs ≡ []
     no_entries [] is = refl
@@ -465,29 +501,36 @@ NoneWait-entries (e ∷ es) all =
 
 readers-none : (es : List (Cell × CellState)) → NoneWait es → flat_map readers_at es ≡ []
 readers-none [] all = refl
-readers-none (e ∷ es) all = ap (λ rs. rs ++ flat_map readers_at es) (readers_at-none e.0 e.1 all.0) ∙ readers-none es all.1
+readers-none (e ∷ es) all =
+    ap (λ rs. rs ++ flat_map readers_at es) (readers_at-none e.0 e.1 all.0) ∙ readers-none es all.1
 
 NoneWait-entry_at : (c : Cell) (o : Option CellState) → count_readers o ≡ 0 → NoneWait (entry_at c o)
 NoneWait-entry_at c None h = tt
 NoneWait-entry_at c (Some s) h = (h, tt)
 
-NoneWait-cells_below : (n : ℕ) (p : ℤ × Structure) (ss : List Slot) → n ≤ 8 → HasNoReaders ss → NoneWait (cells_below n p ss)
+NoneWait-cells_below : (n : ℕ) (p : ℤ × Structure) (ss : List Slot) → n ≤ 8 → HasNoReaders ss
+    → NoneWait (cells_below n p ss)
 unfolding cells_below HasNoReaders
 NoneWait-cells_below zero p ss h none = tt
 NoneWait-cells_below (suc n) p ss h none =
-    all_append _ (cells_below n p ss) (entry_at (cell_in p n) (state_in ss n)) (NoneWait-cells_below n p ss (omega arith) none)
+    all_append _ (cells_below n p ss) (entry_at (cell_in p n) (state_in ss n))
+    (NoneWait-cells_below n p ss (omega arith) none)
     (NoneWait-entry_at (cell_in p n) (state_in ss n) (none n (omega arith)))
 
-NoneWait-cells_in : (es : List ((ℤ × Structure) × Vec Slot Global)) → AllByRecursion (λ e. HasNoReaders e.1.items) es → NoneWait (cells_in es)
+NoneWait-cells_in : (es : List ((ℤ × Structure) × Vec Slot Global)) → AllByRecursion (λ e. HasNoReaders e.1.items) es
+    → NoneWait (cells_in es)
 NoneWait-cells_in [] all = tt
 NoneWait-cells_in (e ∷ es) all =
     subst NoneWait (sym (flat_map-cons page_cells e es))
-    (all_append _ (page_cells e) (cells_in es) (NoneWait-cells_below 8 e.0 e.1.items (omega arith) all.0) (NoneWait-cells_in es all.1))
+    (all_append _ (page_cells e) (cells_in es) (NoneWait-cells_below 8 e.0 e.1.items (omega arith) all.0)
+    (NoneWait-cells_in es all.1))
 
 -- so none is listed
 pub deferred_of-none : (es : List ((ℤ × Structure) × Vec Slot Global)) → AllByRecursion (λ e. HasNoReaders e.1.items) es
     → deferred_of (from_entries {R = cell_cmp} (cells_in es)) ≡ []
-deferred_of-none es all = readers-none (entries (from_entries {R = cell_cmp} (cells_in es))) (NoneWait-entries (cells_in es) (NoneWait-cells_in es all))
+deferred_of-none es all =
+    readers-none (entries (from_entries {R = cell_cmp} (cells_in es)))
+    (NoneWait-entries (cells_in es) (NoneWait-cells_in es all))
 
 -- ---- the cells of a page
 
@@ -499,13 +542,15 @@ keys_of-append (x ∷ xs) ys = ap (λ l. x.0 ∷ l) (keys_of-append xs ys)
 abbrev pub IsBelow : ℕ → ℤ × Structure → Cell → Type 0
 IsBelow n p d = (page_of d ≡ p) × (offset_of d < n)
 
-below-entry_at : (n : ℕ) (p : ℤ × Structure) (o : Option CellState) → n < 8 → AllByRecursion (IsBelow (suc n) p) (keys_of (entry_at (cell_in p n) o))
+below-entry_at : (n : ℕ) (p : ℤ × Structure) (o : Option CellState) → n < 8
+    → AllByRecursion (IsBelow (suc n) p) (keys_of (entry_at (cell_in p n) o))
 below-entry_at n p None h = tt
 below-entry_at n p (Some s) h =
     let at : offset_of (cell_in p n) ≡ n = offset_of-cell_in p n h in
     ((page_of-cell_in p n h, omega (arith, at)), tt)
 
-pub below-cells_below : (n : ℕ) (p : ℤ × Structure) (ss : List Slot) → n ≤ 8 → AllByRecursion (IsBelow n p) (keys_of (cells_below n p ss))
+pub below-cells_below : (n : ℕ) (p : ℤ × Structure) (ss : List Slot) → n ≤ 8
+    → AllByRecursion (IsBelow n p) (keys_of (cells_below n p ss))
 unfolding cells_below
 below-cells_below zero p ss h = tt
 below-cells_below (suc n) p ss h =
@@ -513,7 +558,8 @@ below-cells_below (suc n) p ss h =
     let ys = entry_at (cell_in p n) (state_in ss n) in
     subst (AllByRecursion (IsBelow (suc n) p)) (sym (keys_of-append xs ys))
     (all_append (IsBelow (suc n) p) (keys_of xs) (keys_of ys)
-    (all_weaker (IsBelow n p) (IsBelow (suc n) p) (λ d g. (g.0, wider (offset_of d) g.1)) (keys_of xs) (below-cells_below n p ss (omega arith)))
+    (all_weaker (IsBelow n p) (IsBelow (suc n) p) (λ d g. (g.0, wider (offset_of d) g.1)) (keys_of xs)
+    (below-cells_below n p ss (omega arith)))
     (below-entry_at n p (state_in ss n) (omega arith)))
   where
     wider : (m : ℕ) → m < n → m < suc n
@@ -522,7 +568,8 @@ below-cells_below (suc n) p ss h =
 -- ---- pages in another order
 
 -- make the same map
-pub same-from_permutation : (es fs : List ((ℤ × Structure) × Vec Slot Global)) → IsPermutation es fs → IsDistinct same_page (keys_of es) →
+pub same-from_permutation : (es fs : List ((ℤ × Structure) × Vec Slot Global)) → IsPermutation es fs
+    → IsDistinct same_page (keys_of es) →
     IsDistinct same_page (keys_of fs)
     → from_entries {R = cell_cmp} (cells_in fs) ≡ from_entries {R = cell_cmp} (cells_in es)
 same-from_permutation es fs moved u w =
@@ -533,7 +580,8 @@ same-from_permutation es fs moved u w =
     ∙ sym (get_state es u d))
 
 -- and differ as well
-pub distinct-from_permutation : (es fs : List ((ℤ × Structure) × Vec Slot Global)) → IsPermutation es fs → IsDistinct same_page (keys_of es) →
+pub distinct-from_permutation : (es fs : List ((ℤ × Structure) × Vec Slot Global)) → IsPermutation es fs
+    → IsDistinct same_page (keys_of es) →
     IsDistinct same_page (keys_of fs)
 distinct-from_permutation es fs moved u =
     IsDistinct-IsPermutation same_page same_page_laws.symm (keys_of es) (keys_of fs)
@@ -542,8 +590,8 @@ distinct-from_permutation es fs moved u =
 -- ---- a change of one page
 
 -- at what the page's place has, and at no other place, the pages say something new
-put_page : (es fs : List ((ℤ × Structure) × Vec Slot Global)) (p : ℤ × Structure) (o : ℕ) (old : List Slot) (w : Vec Slot Global)
-    → ((k : ℕ) → state_at es p k ≡ state_in old k) → lookup (same_page p) fs ≡ Some w
+put_page : (es fs : List ((ℤ × Structure) × Vec Slot Global)) (p : ℤ × Structure) (o : ℕ) (old : List Slot)
+    (w : Vec Slot Global) → ((k : ℕ) → state_at es p k ≡ state_in old k) → lookup (same_page p) fs ≡ Some w
     → ((q : ℤ × Structure) → same_page p q ≡ false → lookup (same_page q) fs ≡ lookup (same_page q) es)
     → ((k : ℕ) → k ≢ o → state_in w.items k ≡ state_in old k)
     → (q : ℤ × Structure) (l : ℕ) → (same_page p q && nat_eq o l) ≡ false → state_at fs q l ≡ state_at es q l
@@ -554,10 +602,12 @@ put_page es fs p o old w was now rest kept q l apart = by (same_page p q) refl
         let one : p ≡ q = one_page p q is in
         let differ : nat_eq o l ≡ false = sym (ap (λ b. b && nat_eq o l) is) ∙ apart in
         ap (λ r. state_at fs r l) (sym one) ∙ ap (option_and_then (λ v. state_in v.items l)) now
-        ∙ kept l (λ e. true≢false (sym (nat_self o) ∙ ap (nat_eq o) (sym e) ∙ differ)) ∙ sym (was l) ∙ ap (λ r. state_at es r l) one
+        ∙ kept l (λ e. true≢false (sym (nat_self o) ∙ ap (nat_eq o) (sym e) ∙ differ)) ∙ sym (was l)
+        ∙ ap (λ r. state_at es r l) one
     by false is = ap (option_and_then (λ v. state_in v.items l)) (rest q is)
 
-module _ {S : Type 0} (m : HashMap (ℤ × Structure) (Vec Slot Global) S) (unique : IsUnique same_page m) (i : ℕ) (p q : ℤ × Structure) (v w : Vec Slot Global)
+module _ {S : Type 0} (m : HashMap (ℤ × Structure) (Vec Slot Global) S) (unique : IsUnique same_page m) (i : ℕ) (p q : ℤ
+    × Structure) (v w : Vec Slot Global)
     (found : slice_get (keys_of m.entries) i ≡ Some p) (entry : slice_get m.entries i ≡ Some (q, v)) where
   own : q ≡ p
   own = some_same (sym (ap (option_map (λ e. e.0)) entry) ∙ sym (slice_get-map (λ e. e.0) m.entries i) ∙ found)
@@ -570,7 +620,8 @@ module _ {S : Type 0} (m : HashMap (ℤ × Structure) (Vec Slot Global) S) (uniq
 
   -- what the page at a place has
   pub state_at-entry : (k : ℕ) → state_at m.entries p k ≡ state_in v.items k
-  state_at-entry k = ap (option_and_then (λ u. state_in u.items k)) (lookup_from_place same_page_laws m.entries i p v unique at_place)
+  state_at-entry k =
+      ap (option_and_then (λ u. state_in u.items k)) (lookup_from_place same_page_laws m.entries i p v unique at_place)
 
   updated : Updates same_page m (with_value_at m i w) p (Some w)
   updated = updates-with_value_at m i w same_page_laws unique p v at_place
@@ -580,22 +631,27 @@ module _ {S : Type 0} (m : HashMap (ℤ × Structure) (Vec Slot Global) S) (uniq
   state_at-written k = ap (option_and_then (λ u. state_in u.items k)) updated.1
 
   pub others-written : (o : ℕ) → ((k : ℕ) → k ≢ o → state_in w.items k ≡ state_in v.items k)
-      → (r : ℤ × Structure) (l : ℕ) → (same_page p r && nat_eq o l) ≡ false → state_at (set_value_at m.entries i w) r l ≡ state_at m.entries r l
-  others-written o kept = put_page m.entries (set_value_at m.entries i w) p o v.items w state_at-entry updated.1 updated.2 kept
+      → (r : ℤ × Structure) (l : ℕ) → (same_page p r && nat_eq o l) ≡ false
+      → state_at (set_value_at m.entries i w) r l ≡ state_at m.entries r l
+  others-written o kept =
+      put_page m.entries (set_value_at m.entries i w) p o v.items w state_at-entry updated.1 updated.2 kept
 
   pub unique-written : IsUnique same_page (with_value_at m i w)
   unique-written = subst (IsDistinct same_page) (sym (keys-with_value_at m i w)) unique
 
-module _ {S : Type 0} (m n : HashMap (ℤ × Structure) (Vec Slot Global) S) (p : ℤ × Structure) (w : Vec Slot Global) (absent : hash.get same_page m p ≡ None)
+module _ {S : Type 0} (m n : HashMap (ℤ × Structure) (Vec Slot Global) S) (p : ℤ × Structure) (w : Vec Slot Global)
+    (absent : hash.get same_page m p ≡ None)
   where
     -- a new page, none of whose cells was read or written, changes nothing
-    pub same-new : w.items ≡ [] → Updates same_page m n p (Some w) → (q : ℤ × Structure) (k : ℕ) → state_at n.entries q k ≡ state_at m.entries q k
+    pub same-new : w.items ≡ [] → Updates same_page m n p (Some w) → (q : ℤ × Structure) (k : ℕ)
+        → state_at n.entries q k ≡ state_at m.entries q k
     same-new none u q k = by (same_page p q) refl
       where
         by : (b : Bool) → same_page p q ≡ b → state_at n.entries q k ≡ state_at m.entries q k
         by true is =
             let one : p ≡ q = one_page p q is in
-            ap (λ r. state_at n.entries r k) (sym one) ∙ ap (option_and_then (λ v. state_in v.items k)) u.1 ∙ ap (λ ss. state_in ss k) none
+            ap (λ r. state_at n.entries r k) (sym one) ∙ ap (option_and_then (λ v. state_in v.items k)) u.1
+            ∙ ap (λ ss. state_in ss k) none
             ∙ sym (state_at-none m.entries p k absent) ∙ ap (λ r. state_at m.entries r k) one
         by false is = ap (option_and_then (λ v. state_in v.items k)) (u.2 q is)
 
@@ -605,9 +661,11 @@ module _ {S : Type 0} (m n : HashMap (ℤ × Structure) (Vec Slot Global) S) (p 
     last_key (x ∷ es) e = last_key es e
 
     -- comes last
-    pub found-new : n.entries ≡ insert_entry same_page m.entries p w → slice_get (keys_of n.entries) (length m.entries) ≡ Some p
+    pub found-new : n.entries ≡ insert_entry same_page m.entries p w
+        → slice_get (keys_of n.entries) (length m.entries) ≡ Some p
     found-new is =
-        ap (λ es. slice_get (keys_of es) (length m.entries)) (is ∙ insert_entry-new same_page m p w absent) ∙ last_key m.entries (p, w)
+        ap (λ es. slice_get (keys_of es) (length m.entries)) (is ∙ insert_entry-new same_page m p w absent)
+        ∙ last_key m.entries (p, w)
 
 -- what holds at an answer implies more there
 pub if_ok : {A B : Type 0} (r : Result A B) (P Q : A → Type 0) → ((a : A) → P a → Q a) → IfOk r P → IfOk r Q

@@ -10,8 +10,8 @@ use Rattle.id_record.specs.declared.telling.Faulted.{Faulted}
 use Rattle.id_record.specs.Events.{EventView, AllWent}
 use Rattle.id_record.specs.Tellings.{any_stuck, fault_in, first_fault, is_stuck}
 
-step_well : (n : ℕ) (s : Step) (b : Bool) (o : Option Faulted) → (is_stuck s || b) ≡ false → option_or (fault_in n s) o ≡ None
-    → (s ≡ Went) × ((b ≡ false) × (o ≡ None))
+step_well : (n : ℕ) (s : Step) (b : Bool) (o : Option Faulted) → (is_stuck s || b) ≡ false
+    → option_or (fault_in n s) o ≡ None → (s ≡ Went) × ((b ≡ false) × (o ≡ None))
 step_well n Went b o stuck fault = (refl, (stuck, fault))
 step_well n (Fault f) b o stuck fault = cc
 step_well n Stuck b o stuck fault = cc
@@ -22,13 +22,15 @@ step_ill n Went b o is stuck fault = (stuck, fault)
 step_ill n (Fault f) b o is stuck fault = cc
 step_ill n Stuck b o is stuck fault = cc
 
-each_went : (es : List EventView) → any_stuck es ≡ false → first_fault es ≡ None → AllByRecursion (λ e. e.step ≡ Went) es
+each_went : (es : List EventView) → any_stuck es ≡ false → first_fault es ≡ None
+    → AllByRecursion (λ e. e.step ≡ Went) es
 each_went [] stuck fault = tt
 each_went (e ∷ es) stuck fault =
     let first = step_well e.stamp e.step (any_stuck es) (first_fault es) stuck fault in
     (first.0, each_went es first.1.0 first.1.1)
 
-each_fault : (es : List EventView) → AllByRecursion (λ e. e.step ≡ Went) es → (any_stuck es ≡ false) × (first_fault es ≡ None)
+each_fault : (es : List EventView) → AllByRecursion (λ e. e.step ≡ Went) es
+    → (any_stuck es ≡ false) × (first_fault es ≡ None)
 each_fault [] all = (refl, refl)
 each_fault (e ∷ es) all =
     let rest = each_fault es all.1 in

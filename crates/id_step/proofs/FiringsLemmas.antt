@@ -46,7 +46,8 @@ computed n i t p v w b a = record {
   allocated = allocated_by i.op (firing_of i t n a);
 }
 
-fired_step-computed : (t : Tag) (p : Port) (v : Value) (f : Fired) → fired_step t f ≡ full_step (Token t p v) (fired_verdict f)
+fired_step-computed : (t : Tag) (p : Port) (v : Value) (f : Fired)
+    → fired_step t f ≡ full_step (Token t p v) (fired_verdict f)
 fired_step-computed t p v (Out x) = refl
 fired_step-computed t p v (Side b x) = refl
 fired_step-computed t p v (Moved k x) = refl
@@ -88,13 +89,16 @@ arriving-computed n i t p v w b (Fires o) =
       allocated = allocated_by i.op f;
     }) (fired_step-computed t p v f)
 arriving-computed n i t p v w b Waits =
-    ap (λ k. record { fired = Nothing; sends = []; step = Went; waiting = w; cells = b; made = 0; allocated = k }) (sym (none_allocated i.op))
+    ap (λ k. record { fired = Nothing; sends = []; step = Went; waiting = w; cells = b; made = 0; allocated = k })
+    (sym (none_allocated i.op))
 arriving-computed n i t p v w b Blocked =
-    ap (λ k. record { fired = Nothing; sends = []; step = Stuck; waiting = w; cells = b; made = 0; allocated = k }) (sym (none_allocated i.op))
+    ap (λ k. record { fired = Nothing; sends = []; step = Stuck; waiting = w; cells = b; made = 0; allocated = k })
+    (sym (none_allocated i.op))
 
 -- the outcome of a token, where the code has computed its parts
-pub reacted : (n : Fresh) (i : Instr) (t : Tag) (p : Port) (v : Value) (w later : Store) (b : Cells) (a : Arrival) (f : Fired) (d : Verdict)
-    → a ≡ arrival i.op w t p v → later ≡ waiting_after i.op w t p v → f ≡ firing_of i t n a → d ≡ verdict_of a f
+pub reacted : (n : Fresh) (i : Instr) (t : Tag) (p : Port) (v : Value) (w later : Store) (b : Cells) (a : Arrival)
+    (f : Fired) (d : Verdict) → a ≡ arrival i.op w t p v → later ≡ waiting_after i.op w t p v → f ≡ firing_of i t n a
+    → d ≡ verdict_of a f
     → at_instr n w b t p v (Some i) ≡ record {
       fired = f;
       sends = sent (Some i.op) (arcs_on (side_of f) i) t f;
@@ -122,8 +126,8 @@ plain_outcome i t later b f d = record {
 }
 
 -- the outcome where the code has computed its parts
-plain_reacted : (g : Parts) (n : Fresh) (w later : Store) (b : Cells) (t : PlainToken) (i : Instr) (f : Fired) (d : Verdict)
-    → slice_get g.instrs t.instr ≡ Some i → later ≡ waiting_after i.op w (tag_in t) t.port (whole t.value)
+plain_reacted : (g : Parts) (n : Fresh) (w later : Store) (b : Cells) (t : PlainToken) (i : Instr) (f : Fired)
+    (d : Verdict) → slice_get g.instrs t.instr ≡ Some i → later ≡ waiting_after i.op w (tag_in t) t.port (whole t.value)
     → f ≡ firing_of i (tag_in t) n (arrival_in i.op w t) → d ≡ verdict_of (arrival_in i.op w t) f
     → outcome g n w b (Token (tag_in t) t.port (whole t.value)) ≡ plain_outcome i t later b f d
 plain_reacted g n w later b t i f d there waits fires comes =
@@ -133,15 +137,18 @@ plain_reacted g n w later b t i f d there waits fires comes =
 -- the outcome of one that fires this in small numbers
 pub short_outcome : (g : Parts) (n : Fresh) (w later : Store) (b : Cells) (t : PlainToken) (i : Instr) (p : PlainFired)
     → slice_get g.instrs t.instr ≡ Some i → IsPlainFiring i.op w later t p
-    → outcome g n w b (Token (tag_in t) t.port (whole t.value)) ≡ plain_outcome i t later b (fired_of (tag_in t) p) verdict.Went
+    → outcome g n w b (Token (tag_in t) t.port (whole t.value))
+    ≡ plain_outcome i t later b (fired_of (tag_in t) p) verdict.Went
 short_outcome g n w later b t i p there is =
-    plain_reacted g n w later b t i (fired_of (tag_in t) p) verdict.Went there is.waits (sym (is.fires i n refl)) (sym is.went)
+    plain_reacted g n w later b t i (fired_of (tag_in t) p) verdict.Went there is.waits (sym (is.fires i n refl))
+    (sym is.went)
 
 -- the outcome of one that fires these operands
-pub fires_outcome : (g : Parts) (n : Fresh) (w later : Store) (b : Cells) (t : PlainToken) (i : Instr) (o : PlainOperands)
-    → slice_get g.instrs t.instr ≡ Some i → IsFiring i.op w later t o
+pub fires_outcome : (g : Parts) (n : Fresh) (w later : Store) (b : Cells) (t : PlainToken) (i : Instr)
+    (o : PlainOperands) → slice_get g.instrs t.instr ≡ Some i → IsFiring i.op w later t o
     → outcome g n w b (Token (tag_in t) t.port (whole t.value))
-    ≡ plain_outcome i t later b (fired i.op (tag_in t) (operands_in o) n) (fired_verdict (fired i.op (tag_in t) (operands_in o) n))
+    ≡ plain_outcome i t later b (fired i.op (tag_in t) (operands_in o) n)
+    (fired_verdict (fired i.op (tag_in t) (operands_in o) n))
 fires_outcome g n w later b t i o there firing =
     let f = fired i.op (tag_in t) (operands_in o) n in
     plain_reacted g n w later b t i f (fired_verdict f) there firing.waits

@@ -19,12 +19,14 @@ use Rattle.id_step.specs.Takes.{Becomes, Takes}
 use Rattle.id_step.specs.Replays.{after_all, messages, IsReplayed, IsLegal, CellsFit, WaitingFits, ElementView, Replays}
 
 -- one more message is one more step
-after_all-push : (g : Parts) (n : ℕ) (s : State) (ms : List Message) (m : Message) → after_all g n s (ms ++ m ∷ []) ≡ state_after g n (after_all g n s ms) m
+after_all-push : (g : Parts) (n : ℕ) (s : State) (ms : List Message) (m : Message)
+    → after_all g n s (ms ++ m ∷ []) ≡ state_after g n (after_all g n s ms) m
 after_all-push g n s [] m = refl
 after_all-push g n s (x ∷ ms) m = after_all-push g n (state_after g n s x) ms m
 
 -- a replayed state is replayed after one more message
-pub IsReplayed-take : (g : Parts) (n : ℕ) (s : State) (m : Message) → IsReplayed g n s → IsReplayed g n (state_after g n s m)
+pub IsReplayed-take : (g : Parts) (n : ℕ) (s : State) (m : Message) → IsReplayed g n s
+    → IsReplayed g n (state_after g n s m)
 IsReplayed-take g n s m replayed =
     ap (λ x. state_after g n x m) replayed
     ∙ sym (after_all-push g n fresh (messages s.events) m)
@@ -34,8 +36,12 @@ IsReplayed-take g n s m replayed =
 pub Replays-fresh : (e : ElementView) → e.state ≡ fresh → Replays e
 Replays-fresh e is = record {
   state = let P : State → Type 0 = λ s. IsReplayed e.graph e.number s in subst P (sym is) refl;
-  legal = let P : State → Type 0 = λ s. All (IsLegal e.graph e.count e.number) s.events in subst P (sym is) (All-nil (IsLegal e.graph e.count e.number));
-  waiting = let P : State → Type 0 = λ s. WaitingFits e.graph s in subst P (sym is) (λ t p v waits. absurd (none t p v waits));
+  legal = let P : State → Type 0 =
+      λ s. All (IsLegal e.graph e.count e.number) s.events in
+      subst P (sym is) (All-nil (IsLegal e.graph e.count e.number));
+  waiting =
+      let P : State → Type 0 =
+      λ s. WaitingFits e.graph s in subst P (sym is) (λ t p v waits. absurd (none t p v waits));
   cells = let P : State → Type 0 = λ s. CellsFit e.graph s in subst P (sym is) (CellsFit-empty e.graph 0);
   counted = let P : State → Type 0 = λ s. s.contexts ≤ s.stamp in subst P (sym is) (omega arith);
   numbered = let P : State → Type 0 = λ s. s.structures ≤ s.stamp in subst P (sym is) (omega arith);
@@ -44,7 +50,8 @@ Replays-fresh e is = record {
   none t p v waits = let nothing = waits-empty t p in cc
 
 -- an element that replays does so after one more message
-pub Replays-take : (e : ElementView) (m : Message) → IsFor e.graph e.count e.number m → m.stamp < 2 ^ 64 - 1 → e.state.stamp < 2 ^ 64 - 1 → Replays e →
+pub Replays-take : (e : ElementView) (m : Message) → IsFor e.graph e.count e.number m → m.stamp < 2 ^ 64 - 1
+    → e.state.stamp < 2 ^ 64 - 1 → Replays e →
     Replays (record e { state = state_after e.graph e.number e.state m })
 Replays-take e m is_for left last replays = record {
   state = IsReplayed-take e.graph e.number e.state m replays.state;
@@ -57,14 +64,16 @@ Replays-take e m is_for left last replays = record {
 }
 
 -- and after one that it has taken
-pub Replays-takes : (e e' : ElementView) (m : Message) (rest list : List Message) (s : Step) → IsFor e.graph e.count e.number m → Takes e e' m rest list s
+pub Replays-takes : (e e' : ElementView) (m : Message) (rest list : List Message) (s : Step)
+    → IsFor e.graph e.count e.number m → Takes e e' m rest list s
     → Replays e → Replays e'
 Replays-takes e e' m rest list s is_for takes replays =
     subst Replays (sym takes.element)
     (Replays-take e m is_for (omega (arith, takes.stamp)) (omega (arith, takes.stamp)) replays)
 
 -- whatever became of a message
-pub Replays-becomes : (e e' : ElementView) (m : Message) (list rest list' : List Message) (o : Option Step) → IsFor e.graph e.count e.number m
-    → Becomes e e' m list rest list' o → Replays e → Replays e'
-Replays-becomes e e' m list rest list' (Some s) is_for done replays = Replays-takes e e' m rest list' s is_for done replays
+pub Replays-becomes : (e e' : ElementView) (m : Message) (list rest list' : List Message) (o : Option Step)
+    → IsFor e.graph e.count e.number m → Becomes e e' m list rest list' o → Replays e → Replays e'
+Replays-becomes e e' m list rest list' (Some s) is_for done replays =
+    Replays-takes e e' m rest list' s is_for done replays
 Replays-becomes e e' m list rest list' None is_for done replays = subst Replays (sym done.element) replays

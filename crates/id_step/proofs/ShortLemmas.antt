@@ -20,16 +20,19 @@ use Rattle.id_step.specs.Fits.{Fits}
 use Rattle.id_step.specs.Steps.{State, fired_verdict, next_numbers}
 
 -- the element step on a plain token at its instruction that fires this in small numbers
-pub step_plain : (g : Parts) (e : ℕ) (s : State) (t : PlainToken) (i : Instr) (later : Store) (p : PlainFired) → slice_get g.instrs t.instr ≡ Some i
-    → IsPlainFiring i.op s.waiting later t p
+pub step_plain : (g : Parts) (e : ℕ) (s : State) (t : PlainToken) (i : Instr) (later : Store) (p : PlainFired)
+    → slice_get g.instrs t.instr ≡ Some i → IsPlainFiring i.op s.waiting later t p
     → IsStepBy g e s (message_of t) (plain_outcome i t later s.cells (fired_of (tag_in t) p) verdict.Went)
-step_plain g e s t i later p there comes = step_by g e s (message_of t) _ (short_outcome g (next_numbers e s) s.waiting later s.cells t i p there comes)
+step_plain g e s t i later p there comes =
+    step_by g e s (message_of t) _ (short_outcome g (next_numbers e s) s.waiting later s.cells t i p there comes)
 
 -- and on one that fires these operands
-pub step_full : (g : Parts) (e : ℕ) (s : State) (t : PlainToken) (i : Instr) (later : Store) (o : PlainOperands) → slice_get g.instrs t.instr ≡ Some i
-    → IsFiring i.op s.waiting later t o
-    → (let f = fired i.op (tag_in t) (operands_in o) (next_numbers e s) in IsStepBy g e s (message_of t) (plain_outcome i t later s.cells f (fired_verdict f)))
-step_full g e s t i later o there comes = step_by g e s (message_of t) _ (fires_outcome g (next_numbers e s) s.waiting later s.cells t i o there comes)
+pub step_full : (g : Parts) (e : ℕ) (s : State) (t : PlainToken) (i : Instr) (later : Store) (o : PlainOperands)
+    → slice_get g.instrs t.instr ≡ Some i → IsFiring i.op s.waiting later t o
+    → (let f = fired i.op (tag_in t) (operands_in o) (next_numbers e s) in
+    IsStepBy g e s (message_of t) (plain_outcome i t later s.cells f (fired_verdict f)))
+step_full g e s t i later o there comes =
+    step_by g e s (message_of t) _ (fires_outcome g (next_numbers e s) s.waiting later s.cells t i o there comes)
 
 -- what an error says nothing of
 pub if_err : {A E : Type 0} → (P : A → Type 0) (r : Result A E) → IsErr r → IfOk r P
@@ -37,8 +40,9 @@ if_err P (Ok a) is = cc
 if_err P (Err e) is = tt
 
 -- the event of a token that fits the graph is short where its stamp, the most and what stands in no graph are small
-pub IsShort-bound : (g : Parts) (d : Storage) (most : ℕ) (t : PlainToken) (stamp : ℕ) → IsBound g d.log.element most → Fits g (message_of t)
-    → t.stamp < stamp → stamp < 2 ^ 32 → length d.log.events < 2 ^ 32 → most ≤ 256 → IsShort d most t stamp
+pub IsShort-bound : (g : Parts) (d : Storage) (most : ℕ) (t : PlainToken) (stamp : ℕ) → IsBound g d.log.element most
+    → Fits g (message_of t) → t.stamp < stamp → stamp < 2 ^ 32 → length d.log.events < 2 ^ 32 → most ≤ 256
+    → IsShort d most t stamp
 IsShort-bound g d most t stamp bound fits above small room few = record {
   stamp_is = small;
   position = room;

@@ -1,6 +1,7 @@
 -- Lemmas on specs/Takes.antt: what is recorded and sent at a storage is the element step, also where what waits and the
 -- cells have changed before; and whether it went well.
-use Rattle.std.proofs.Common.{◌≡◌, ◌<◌, ◌^◌, ◌-◌, ◌++◌, ◌||◌, ℕ, Bool, List, Some, true, false, Ok, Err, length, refl, sym, ap, subst, ◌∙◌}
+use Rattle.std.proofs.Common.{◌≡◌, ◌<◌, ◌^◌, ◌-◌, ◌++◌, ◌||◌, ℕ, Bool, List, Some, true, false, Ok, Err, length, refl}
+use Rattle.std.proofs.Common.{sym, ap, subst, ◌∙◌}
 use Rattle.std.proofs.Common.{◌==◌, arith}
 use Rattle.std.specs.Prelude.{IsTrue}
 use Rattle.std.proofs.lemmas.Bool.{eqb-true}
@@ -36,8 +37,9 @@ abbrev pub changed : ElementView → Store → Cells → ElementView
 changed e w b = record e { state = record e.state { waiting = w; cells = b } }
 
 -- a message that was recorded with its outcome at this stamp, which is the next, and sent for was taken
-pub takes_recorded : (e : ElementView) (w : Store) (b : Cells) (d new : Storage) (m : Message) (n : ℕ) (o p : Outcome) (s : Step) (rest before list : List Message)
-    → IsStepBy e.graph e.number e.state m p → element_at d ≡ changed e w b → n ≡ next_stamp e.state m → n < 2 ^ 64 → o ≡ p → s ≡ p.step → before ≡ rest
+pub takes_recorded : (e : ElementView) (w : Store) (b : Cells) (d new : Storage) (m : Message) (n : ℕ) (o p : Outcome)
+    (s : Step) (rest before list : List Message) → IsStepBy e.graph e.number e.state m p → element_at d ≡ changed e w b
+    → n ≡ next_stamp e.state m → n < 2 ^ 64 → o ≡ p → s ≡ p.step → before ≡ rest
     → IsRecorded d new m n o → IsSent d before list n o.sends → Takes e (element_at new) m rest list s
 takes_recorded e w b d new m n o p s rest before list by at is below comes step same done sends = record {
   stamp = subst (λ k. k < 2 ^ 64) is below;
@@ -58,14 +60,16 @@ takes_recorded e w b d new m n o p s rest before list by at is below comes step 
 }
 
 -- a storage treats a plain token where the element step makes of it what it has recorded and sent
-pub treats : (w : Store) (d new : Storage) (t : PlainToken) (i : Instr) (f : Fired) (v : Verdict) (n : ℕ) (list after : List Message)
-    → IsStepBy d.log.graph d.log.element (record (state_of d) { waiting = w }) (message_of t) (plain_outcome i t d.waiting d.cells f v)
-    → n ≡ next_stamp (state_of d) (message_of t) → n < 2 ^ 32
+pub treats : (w : Store) (d new : Storage) (t : PlainToken) (i : Instr) (f : Fired) (v : Verdict) (n : ℕ)
+    (list after : List Message)
+    → IsStepBy d.log.graph d.log.element (record (state_of d) { waiting = w }) (message_of t)
+    (plain_outcome i t d.waiting d.cells f v) → n ≡ next_stamp (state_of d) (message_of t) → n < 2 ^ 32
     → IsRecorded d new (message_of t) n (token_outcome d i (tag_in t) f (full_step (message_of t).payload v))
     → IsSent d list after n (token_sends i (tag_in t) f)
     → TreatsFrom w d new (message_of t) list after (Some (full_step (message_of t).payload v))
 treats w d new t i f v n list after by is small done sends =
-    takes_recorded (record (element_at d) { state = record (state_of d) { waiting = w } }) d.waiting d.cells d new _ n _ _ _ _ list after
+    takes_recorded (record (element_at d) { state = record (state_of d) { waiting = w } }) d.waiting d.cells d new _ n _
+    _ _ _ list after
     by refl is (omega (arith, small)) refl refl refl done sends
 
 -- ---- messages that leave their list
@@ -76,7 +80,8 @@ not_ended s m small end = go (s.stamp == 2 ^ 64 - 1) (m.stamp == 2 ^ 64 - 1) ref
   where
     go : (a b : Bool) → (s.stamp == 2 ^ 64 - 1) ≡ a → (m.stamp == 2 ^ 64 - 1) ≡ b → IsTrue (a || b) → ⊥
     go true b l r t = let is = eqb-true s.stamp (2 ^ 64 - 1) l in omega (arith, is, le-max_left s.stamp m.stamp, small)
-    go false true l r t = let is = eqb-true m.stamp (2 ^ 64 - 1) r in omega (arith, is, le-max_right s.stamp m.stamp, small)
+    go false true l r t =
+        let is = eqb-true m.stamp (2 ^ 64 - 1) r in omega (arith, is, le-max_right s.stamp m.stamp, small)
     go false false l r t = cc
 
 -- ---- whether it went well
@@ -85,8 +90,8 @@ pub goes_well : {k : ℕ} {e e' : ElementView} {list list' : List Message} → H
     → GoesAt k e e' list list' (Ok true)
 goes_well h = record { step = Ok step.Went; handles = h; well = refl }
 
-pub goes_not : {k : ℕ} {e e' : ElementView} {list list' : List Message} (x : TakeError) → HandlesAt k e e' list list' (Err x)
-    → GoesAt k e e' list list' (Err x)
+pub goes_not : {k : ℕ} {e e' : ElementView} {list list' : List Message} (x : TakeError)
+    → HandlesAt k e e' list list' (Err x) → GoesAt k e e' list list' (Err x)
 goes_not x h = record { step = Err x; handles = h; well = refl }
 
 pub goes_ill : (k : ℕ) (e e' : ElementView) (list list' : List Message) (s : Short) (f : FaultKind) → s ≡ short.Failed f

@@ -1,5 +1,7 @@
--- Lemmas on what events of an element tell: an `enter` enters a context or does nothing, and an `alloc` brings structures out for numbers.
-use Rattle.std.proofs.Common.{◌≡◌, ◌⊎◌, inl, inr, ℕ, Bool, true, false, Option, Some, None, List, [], ◌++◌, map, refl, sym, ap, ◌∙◌}
+-- Lemmas on what events of an element tell: an `enter` enters a context or does nothing, and an `alloc` brings
+-- structures out for numbers.
+use Rattle.std.proofs.Common.{◌≡◌, ◌⊎◌, inl, inr, ℕ, Bool, true, false, Option, Some, None, List, [], ◌++◌, map, refl}
+use Rattle.std.proofs.Common.{sym, ap, ◌∙◌}
 use Rattle.std.specs.Prelude.{ℤ, if◌then◌else◌, slice_get, option_map}
 use Rattle.id_instr.specs.declared.dests.Dest.{Dest}
 use Rattle.id_instr.specs.declared.dests.Port.{Port}
@@ -37,13 +39,16 @@ enter-fires : (c : Context) (x : Operands) → (fired_enter c x ≡ Entered c) �
 enter-fires c (One value.Signal) = inl refl
 enter-fires c x = inr refl
 
--- what an `enter` under the tag does: it enters a context, and sends last what starts its block there, or it fires and sends nothing
+-- what an `enter` under the tag does: it enters a context, and sends last what starts its block there, or it fires and
+-- sends nothing
 abbrev pub Enters : Tag → ℕ → ℕ → Outcome → Type 0
 Enters t k r o =
-    ((c : Context) × (ds : List Dest) × (o.fired ≡ Entered c) × (o.sends ≡ map (token_to t (value.Context c)) ds ++ started (Some (Enter k r)) t c))
+    ((c : Context) × (ds : List Dest) × (o.fired ≡ Entered c)
+    × (o.sends ≡ map (token_to t (value.Context c)) ds ++ started (Some (Enter k r)) t c))
     ⊎ ((o.fired ≡ Nothing) × (o.sends ≡ []))
 
-enters-by : (n : Fresh) (i : Instr) (t : Tag) (w : Store) (b : Cells) (a : Arrival) (k r : ℕ) → i.op ≡ Enter k r → Enters t k r (arriving n i t w b a)
+enters-by : (n : Fresh) (i : Instr) (t : Tag) (w : Store) (b : Cells) (a : Arrival) (k r : ℕ) → i.op ≡ Enter k r
+    → Enters t k r (arriving n i t w b a)
 enters-by n i t w b (Fires x) k r is = from (enter-fires n.context x)
   where
     same : fired i.op t x n ≡ fired_enter n.context x
@@ -52,26 +57,28 @@ enters-by n i t w b (Fires x) k r is = from (enter-fires n.context x)
     ds : List Dest
     ds = arcs_on (side_of (Entered n.context)) i
 
-    from : (fired_enter n.context x ≡ Entered n.context) ⊎ (fired_enter n.context x ≡ Nothing) → Enters t k r (firing i t w b (fired i.op t x n))
+    from : (fired_enter n.context x ≡ Entered n.context) ⊎ (fired_enter n.context x ≡ Nothing)
+        → Enters t k r (firing i t w b (fired i.op t x n))
     from (inl entered) = inl (
       n.context,
       ds,
       same ∙ entered,
-      ap (λ f. (firing i t w b f).sends) (same ∙ entered) ∙ ap (λ o. map (token_to t (value.Context n.context)) ds ++ started (Some o) t n.context) is,
+      ap (λ f. (firing i t w b f).sends) (same ∙ entered)
+          ∙ ap (λ o. map (token_to t (value.Context n.context)) ds ++ started (Some o) t n.context) is,
     )
     from (inr nothing) = inr (same ∙ nothing, ap (λ f. (firing i t w b f).sends) (same ∙ nothing))
 enters-by n i t w b Waits k r is = inr (refl, refl)
 enters-by n i t w b Blocked k r is = inr (refl, refl)
 
-enters-at : (n : Fresh) (w : Store) (b : Cells) (t : Tag) (p : Port) (v : Value) (o : Option Instr) (k r : ℕ) → option_map (λ i. i.op) o ≡ Some (Enter k r)
-    → Enters t k r (at_instr n w b t p v o)
+enters-at : (n : Fresh) (w : Store) (b : Cells) (t : Tag) (p : Port) (v : Value) (o : Option Instr) (k r : ℕ)
+    → option_map (λ i. i.op) o ≡ Some (Enter k r) → Enters t k r (at_instr n w b t p v o)
 enters-at n w b t p v None k r is = inr (refl, refl)
 enters-at n w b t p v (Some i) k r is =
     let op : i.op ≡ Enter k r = cc in
     enters-by n i t (waiting_after i.op w t p v) b (arrival i.op w t p v) k r op
 
-pub enter-enters : (g : Parts) (n : Fresh) (w : Store) (b : Cells) (t : Tag) (p : Port) (v : Value) (k r : ℕ) → op_at g t.instr ≡ Some (Enter k r)
-    → Enters t k r (outcome g n w b (Token t p v))
+pub enter-enters : (g : Parts) (n : Fresh) (w : Store) (b : Cells) (t : Tag) (p : Port) (v : Value) (k r : ℕ)
+    → op_at g t.instr ≡ Some (Enter k r) → Enters t k r (outcome g n w b (Token t p v))
 enter-enters g n w b t p v k r is = enters-at n w b t p v (slice_get g.instrs t.instr) k r is
 
 -- ---- `alloc`
@@ -104,13 +111,14 @@ among-numbers v lo hi (inl is) = ap is_number is
 among-numbers v lo hi (inr is) = ap is_number is
 
 -- a structure goes out for a number alone
-alloc-fires : (v : Value) (nested : Bool) (n : Fresh) (x : Operands) → Has v (Fires x) → (s : Structure) → fired_alloc nested n x ≡ Out (value.Structure s)
-    → is_number v ≡ true
+alloc-fires : (v : Value) (nested : Bool) (n : Fresh) (x : Operands) → Has v (Fires x) → (s : Structure)
+    → fired_alloc nested n x ≡ Out (value.Structure s) → is_number v ≡ true
 alloc-fires v nested n (Two (value.Int lo) (value.Int hi)) has s made = among-numbers v lo hi has
 alloc-fires v nested n x has s made = cc
 
-alloc-by : (n : Fresh) (i : Instr) (t : Tag) (w : Store) (b : Cells) (v : Value) (a : Arrival) (nested : Bool) → i.op ≡ Alloc nested → Has v a
-    → (s : Structure) → (arriving n i t w b a).fired ≡ Out (value.Structure s) → is_number v ≡ true
+alloc-by : (n : Fresh) (i : Instr) (t : Tag) (w : Store) (b : Cells) (v : Value) (a : Arrival) (nested : Bool)
+    → i.op ≡ Alloc nested → Has v a → (s : Structure) → (arriving n i t w b a).fired ≡ Out (value.Structure s)
+    → is_number v ≡ true
 alloc-by n i t w b v (Fires x) nested is has s made =
     let same : fired i.op t x n ≡ fired_alloc nested n x = ap (λ o. fired o t x n) is in
     alloc-fires v nested n x has s (sym same ∙ made)
@@ -118,7 +126,8 @@ alloc-by n i t w b v Waits nested is has s made = cc
 alloc-by n i t w b v Blocked nested is has s made = cc
 
 alloc-at : (n : Fresh) (w : Store) (b : Cells) (t : Tag) (p : Port) (v : Value) (o : Option Instr) (nested : Bool)
-    → option_map (λ i. i.op) o ≡ Some (Alloc nested) → (s : Structure) → (at_instr n w b t p v o).fired ≡ Out (value.Structure s) → is_number v ≡ true
+    → option_map (λ i. i.op) o ≡ Some (Alloc nested) → (s : Structure)
+    → (at_instr n w b t p v o).fired ≡ Out (value.Structure s) → is_number v ≡ true
 alloc-at n w b t p v None nested is s made = cc
 alloc-at n w b t p v (Some i) nested is s made =
     let op : i.op ≡ Alloc nested = cc in
@@ -126,5 +135,6 @@ alloc-at n w b t p v (Some i) nested is s made =
 
 -- an `alloc` brings a structure out for a number
 pub alloc-number : (g : Parts) (n : Fresh) (w : Store) (b : Cells) (t : Tag) (p : Port) (v : Value) (nested : Bool)
-    → op_at g t.instr ≡ Some (Alloc nested) → (s : Structure) → (outcome g n w b (Token t p v)).fired ≡ Out (value.Structure s) → is_number v ≡ true
+    → op_at g t.instr ≡ Some (Alloc nested) → (s : Structure)
+    → (outcome g n w b (Token t p v)).fired ≡ Out (value.Structure s) → is_number v ≡ true
 alloc-number g n w b t p v nested is s made = alloc-at n w b t p v (slice_get g.instrs t.instr) nested is s made

@@ -19,7 +19,7 @@ use Rattle.id_record.specs.Events.{EventView}
 use Rattle.id_step.specs.Steps.{State}
 use Rattle.id_step.specs.Replays.{ElementView}
 
--- a graph, a message, what was fired, what an event came to and how much is kept have the codes of their types
+-- a graph has the code of its type
 abbrev pub coded_graph : Coded Parts
 coded_graph = valid.the_row.coded
 

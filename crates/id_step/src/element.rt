@@ -237,8 +237,8 @@ impl<'a> Element<'a> {
         }
     }
 
-    /// Handles the message at a position of a list as `take_at` does, where it is a read or a write in small numbers, and
-    /// says what became of it.
+    /// Handles the message at a position of a list as `take_at` does, where it is a read or a write in small numbers,
+    /// and says what became of it.
     #[inline(never)]
     fn take_other<G: Gate>(
         &mut self,

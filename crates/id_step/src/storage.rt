@@ -47,7 +47,8 @@ impl<'a> Storage<'a> {
     ghost use Rattle.id_record.specs.Events.{full_step, tag_of};
     ghost use Rattle.id_record.specs.Sends.{sent};
     ghost use Rattle.id_step.specs.declared.step.TakeError.TheVariants.{StampEnd};
-    ghost use Rattle.id_step.specs.Storage.{IsShort, IsToken, MayRecord, Treats, TreatsFrom, element_at, fired_by, state_of};
+    ghost use Rattle.id_step.specs.Storage.{IsShort, IsToken, MayRecord, Treats, TreatsFrom, element_at, fired_by};
+    ghost use Rattle.id_step.specs.Storage.{state_of};
     ghost use Rattle.id_step.specs.Firings.{IsBound, most_sent};
     ghost use Rattle.id_step.specs.Fits.{Fits};
     ghost use Rattle.id_step.specs.Handled.{IsRecorded, IsSent, token_outcome, token_sends};

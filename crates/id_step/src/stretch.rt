@@ -370,8 +370,8 @@ impl<'a> Storage<'a> {
         requires port { two_ports instr.now.op ≡ true }
         requires came { HasMet self.old instr.now token.old (operands.Two left right) }
 
-        ensures comes { ShootsFull result (operands.Two left right) self.old self.new instr.now near.old.messages near.new.messages
-            list.old.messages list.new.messages token.old token.new }
+        ensures comes { ShootsFull result (operands.Two left right) self.old self.new instr.now
+            near.old.messages near.new.messages list.old.messages list.new.messages token.old token.new }
         ensures left { LeavesRoom result near.new list.new }
     {
         let op = instr.op;
@@ -491,8 +491,8 @@ impl<'a> Storage<'a> {
         requires ready { IsReady self.old instr.now token.old stamp near.old list.old }
         requires came { HasFired self.old instr.now token.old (fired.Moved iteration value) }
 
-        ensures comes { Shoots result (fired.Moved iteration value) self.old self.new instr.now near.old.messages near.new.messages
-            list.old.messages list.new.messages token.old token.new }
+        ensures comes { Shoots result (fired.Moved iteration value) self.old self.new instr.now
+            near.old.messages near.new.messages list.old.messages list.new.messages token.old token.new }
         ensures left { LeavesRoom result near.new list.new }
     {
         let mark = self.note_fired(
@@ -526,8 +526,8 @@ impl<'a> Storage<'a> {
         requires ready { IsReady self.old instr.now token.old stamp near.old list.old }
         requires came { HasFired self.old instr.now token.old (fired.Sent target value) }
 
-        ensures comes { Shoots result (fired.Sent target value) self.old self.new instr.now near.old.messages near.new.messages
-            list.old.messages list.new.messages token.old token.new }
+        ensures comes { Shoots result (fired.Sent target value) self.old self.new instr.now
+            near.old.messages near.new.messages list.old.messages list.new.messages token.old token.new }
         ensures left { LeavesRoom result near.new list.new }
     {
         let mark = self.note_fired(instr, token, stamp, PlainFired::Sent(target, value), gate);
@@ -551,8 +551,8 @@ impl<'a> Storage<'a> {
         requires ready { IsReady self.old instr.now token.old stamp near.old list.old }
         requires came { HasFired self.old instr.now token.old (fired.Asked cell reply) }
 
-        ensures comes { Shoots result (fired.Asked cell reply) self.old self.new instr.now near.old.messages near.new.messages
-            list.old.messages list.new.messages token.old token.new }
+        ensures comes { Shoots result (fired.Asked cell reply) self.old self.new instr.now
+            near.old.messages near.new.messages list.old.messages list.new.messages token.old token.new }
         ensures left { LeavesRoom result near.new list.new }
     {
         let mark = self.note_fired(instr, token, stamp, PlainFired::Asked(cell, reply), gate);
@@ -580,8 +580,8 @@ impl<'a> Storage<'a> {
         requires ready { IsReady self.old instr.now token.old stamp near.old list.old }
         requires came { HasFired self.old instr.now token.old (fired.Stored cell value) }
 
-        ensures comes { Shoots result (fired.Stored cell value) self.old self.new instr.now near.old.messages near.new.messages
-            list.old.messages list.new.messages token.old token.new }
+        ensures comes { Shoots result (fired.Stored cell value) self.old self.new instr.now
+            near.old.messages near.new.messages list.old.messages list.new.messages token.old token.new }
         ensures left { LeavesRoom result near.new list.new }
     {
         let mark = self.note_fired(instr, token, stamp, PlainFired::Stored(cell, value), gate);

@@ -20,6 +20,7 @@ invariant_of-result c =
 pub returns : goal.returns
 returns c =
     record {
-      items = ap (flat_map filled_at) (cells_left-all (map (λ e. (e.0, e.1.now)) c.in_ok-pages.pages.items) ∙ c.in_ok-pages.ensures) ∙
+      items = ap (flat_map filled_at) (cells_left-all (map (λ e. (e.0, e.1.now)) c.in_ok-pages.pages.items)
+          ∙ c.in_ok-pages.ensures) ∙
           ap cells_of c.self.view_is;
     }

@@ -8,15 +8,19 @@ use Rattle.id_bank.proofs.Bank.expected.Goals as goal
 pub returns-in-Some : goal.returns-in-Some
 returns-in-Some c =
     let es = c.self.inside.pages.entries in
-    let there = at_cell es c.place.ensures.unique _ c.self.view_is c.args.cell c.of-key.result c.of-key.ensures c.offset_of.result
+    let there =
+    at_cell es c.place.ensures.unique _ c.self.view_is c.args.cell c.of-key.result c.of-key.ensures c.offset_of.result
     c.offset_of.ensures.value in
     c.expected_in.ensures
     ∙ ap (λ ss. count_expected (state_in ss c.offset_of.result)) c.deref.ensures.value
-    ∙ ap count_expected (sym (state_at-place es c.place.ensures.unique c.in-Some.i c.of-key.result c.index.result.now c.offset_of.result
+    ∙ ap count_expected
+    (sym (state_at-place es c.place.ensures.unique c.in-Some.i c.of-key.result c.index.result.now c.offset_of.result
     c.in-Some.ensures.found c.index.ensures) ∙ sym there)
 
 pub returns-in-None : goal.returns-in-None
 returns-in-None c =
     let es = c.self.inside.pages.entries in
-    let there = at_cell es c.place.ensures.unique _ c.self.view_is c.args.cell c.of-key.result c.of-key.ensures (offset_of c.args.cell) refl in
+    let there =
+    at_cell es c.place.ensures.unique _ c.self.view_is c.args.cell c.of-key.result c.of-key.ensures
+    (offset_of c.args.cell) refl in
     ap count_expected (sym (there ∙ state_at-none es c.of-key.result (offset_of c.args.cell) c.in-None.ensures.absent))

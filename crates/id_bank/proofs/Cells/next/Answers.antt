@@ -10,22 +10,29 @@ pub returns-in-Some-clause-some : goal.returns-in-Some-clause-some
 returns-in-Some-clause-some c =
     let s = c.loop-self.self-inside in
     let inside : s.page < length s.pages.items = omega (arith, c.len.ensures, s.pages.ok.0, c.loop-self-test.true) in
-    let here = ap (λ ss. filled_by (cell_in c.index-entry.result.now.0 (8 - s.left)) (state_in ss (8 - s.left))) (sym c.deref.ensures.value) ∙
+    let here =
+    ap (λ ss. filled_by (cell_in c.index-entry.result.now.0 (8 - s.left)) (state_in ss (8 - s.left)))
+    (sym c.deref.ensures.value) ∙
     sym c.filled_in.ensures ∙ c.in-Some.is in
     sym c.loop-self.invariant.same
-    ∙ some_at (λ e. (e.0, e.1.now)) s.pages.items s.page s.left (8 - s.left) c.index-entry.result.now c.in-Some.filled inside (sym c.index-entry.ensures)
+    ∙ some_at (λ e. (e.0, e.1.now)) s.pages.items s.page s.left (8 - s.left) c.index-entry.result.now c.in-Some.filled
+    inside (sym c.index-entry.ensures)
     c.if-self-gt0.true (λ i. 8 - s.left) here
 
 pub loop-self-preserved-in_default : goal.loop-self-preserved-in_default
 loop-self-preserved-in_default c =
     let s = c.loop-self.self-inside in
     let inside : s.page < length s.pages.items = omega (arith, c.len.ensures, s.pages.ok.0, c.loop-self-test.true) in
-    let here = ap (λ ss. filled_by (cell_in c.index-entry.result.now.0 (8 - s.left)) (state_in ss (8 - s.left))) (sym c.deref.ensures.value) ∙
+    let here =
+    ap (λ ss. filled_by (cell_in c.index-entry.result.now.0 (8 - s.left)) (state_in ss (8 - s.left)))
+    (sym c.deref.ensures.value) ∙
     sym c.filled_in.ensures ∙ c.in_default.is in
     record {
       left = omega (arith, c.loop-self.invariant.left);
       count = c.loop-self.invariant.count;
-      same = sym (none_at (λ e. (e.0, e.1.now)) s.pages.items s.page s.left (8 - s.left) c.index-entry.result.now inside (sym c.index-entry.ensures)
+      same = sym
+          (none_at (λ e. (e.0, e.1.now)) s.pages.items s.page s.left (8 - s.left) c.index-entry.result.now inside
+          (sym c.index-entry.ensures)
           c.if-self-gt0.true (λ i. 8 - s.left) here) ∙ c.loop-self.invariant.same;
     }
 
@@ -36,7 +43,9 @@ loop-self-preserved c =
     record {
       left = omega arith;
       count = c.loop-self.invariant.count;
-      same = sym (ap (flat_map filled_at) (next_page (λ e. (e.0, e.1.now)) s.pages.items s.page s.left inside (omega (arith, c.if-self-gt0.false)))) ∙
+      same = sym
+          (ap (flat_map filled_at)
+          (next_page (λ e. (e.0, e.1.now)) s.pages.items s.page s.left inside (omega (arith, c.if-self-gt0.false)))) ∙
           c.loop-self.invariant.same;
     }
 
@@ -51,10 +60,13 @@ overflow_sub-self-in-Some c =
     let s = c.loop-self.self-inside in
     let known = c.loop-self.invariant in
     let inside : s.page < length s.pages.items = omega (arith, c.len.ensures, s.pages.ok.0, c.loop-self-test.true) in
-    let here = ap (λ ss. filled_by (cell_in c.index-entry.result.now.0 (8 - s.left)) (state_in ss (8 - s.left))) (sym c.deref.ensures.value) ∙
+    let here =
+    ap (λ ss. filled_by (cell_in c.index-entry.result.now.0 (8 - s.left)) (state_in ss (8 - s.left)))
+    (sym c.deref.ensures.value) ∙
     sym c.filled_in.ensures ∙ c.in-Some.is in
     (one_fewer s.count _ _ _
-    (some_at (λ e. (e.0, e.1.now)) s.pages.items s.page s.left (8 - s.left) c.index-entry.result.now c.in-Some.filled inside (sym c.index-entry.ensures)
+    (some_at (λ e. (e.0, e.1.now)) s.pages.items s.page s.left (8 - s.left) c.index-entry.result.now c.in-Some.filled
+    inside (sym c.index-entry.ensures)
     c.if-self-gt0.true (λ i. 8 - s.left) here)
     (known.count ∙ ap length (sym known.same))).0
 
@@ -63,11 +75,14 @@ invariant_of-self-in-Some c =
     let s = c.loop-self.self-inside in
     let known = c.loop-self.invariant in
     let inside : s.page < length s.pages.items = omega (arith, c.len.ensures, s.pages.ok.0, c.loop-self-test.true) in
-    let here = ap (λ ss. filled_by (cell_in c.index-entry.result.now.0 (8 - s.left)) (state_in ss (8 - s.left))) (sym c.deref.ensures.value) ∙
+    let here =
+    ap (λ ss. filled_by (cell_in c.index-entry.result.now.0 (8 - s.left)) (state_in ss (8 - s.left)))
+    (sym c.deref.ensures.value) ∙
     sym c.filled_in.ensures ∙ c.in-Some.is in (
       omega (arith, known.left),
       (one_fewer s.count _ _ _
-          (some_at (λ e. (e.0, e.1.now)) s.pages.items s.page s.left (8 - s.left) c.index-entry.result.now c.in-Some.filled inside (sym c.index-entry.ensures)
+          (some_at (λ e. (e.0, e.1.now)) s.pages.items s.page s.left (8 - s.left) c.index-entry.result.now
+          c.in-Some.filled inside (sym c.index-entry.ensures)
           c.if-self-gt0.true (λ i. 8 - s.left) here)
           (known.count ∙ ap length (sym known.same))).1,
     )

@@ -9,7 +9,9 @@ abbrev pub invariant-loop-self : goal.invariant-loop-self
 invariant-loop-self l = record {
   left : l.self-inside.left ≤ 8;
   count : l.self-inside.count ≡ length l.fn.self;
-  same : flat_map filled_at (cells_left l.self-inside.left (map (λ e. (e.0, e.1.now)) (drop l.self-inside.page l.self-inside.pages.items))) ≡ l.fn.self;
+  same : flat_map filled_at
+      (cells_left l.self-inside.left (map (λ e. (e.0, e.1.now)) (drop l.self-inside.page l.self-inside.pages.items)))
+      ≡ l.fn.self;
 }
 
 abbrev pub decreases-loop-self : goal.decreases-loop-self

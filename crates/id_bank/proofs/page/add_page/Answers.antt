@@ -11,4 +11,5 @@ returns-clause-found c =
 
 pub returns-clause-same : goal.returns-clause-same
 returns-clause-same c =
-    same-new c.args.pages.now c.insert.new.self c.args.page c.new.result c.requires c.new.ensures.items c.in_ok-insert.ensures.updates
+    same-new c.args.pages.now c.insert.new.self c.args.page c.new.result c.requires c.new.ensures.items
+    c.in_ok-insert.ensures.updates

@@ -11,4 +11,5 @@ returns-clause-found c =
     ∙ ap (option_map (λ e. e.0)) (sym c.in-Some.ensures.entry) ∙ ap Some one
 
 pub returns-2-clause-found : goal.returns-2-clause-found
-returns-2-clause-found c = place_from_position c.args.page c.args.pages.now.entries c.get_index_of.result c.get_index_of.ensures.index
+returns-2-clause-found c =
+    place_from_position c.args.page c.args.pages.now.entries c.get_index_of.result c.get_index_of.ensures.index

@@ -6,4 +6,5 @@ use Rattle.id_bank.proofs.slot.waiting.Given as goal
 
 -- the replies at the cells so far are listed
 abbrev pub invariant-loop-entry : goal.invariant-loop-entry
-invariant-loop-entry l = l.readers.items ≡ flat_map (λ e. readers_at (e.0, held_in e.1.now)) (take l.entry-index l.slots)
+invariant-loop-entry l =
+    l.readers.items ≡ flat_map (λ e. readers_at (e.0, held_in e.1.now)) (take l.entry-index l.slots)

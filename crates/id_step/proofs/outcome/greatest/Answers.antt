@@ -21,7 +21,8 @@ loop-i-init c = λ k d less. omega arith
 
 pub loop-i-preserved : goal.loop-i-preserved
 loop-i-preserved c = λ k d less.
-    rises c.instrs-instrs.result.now c.loop-i.i c.loop-i.most c.if-own-most.most c.index-instrs-i.result c.loop-i-test.true c.index-instrs-i.is
+    rises c.instrs-instrs.result.now c.loop-i.i c.loop-i.most c.if-own-most.most c.index-instrs-i.result
+    c.loop-i-test.true c.index-instrs-i.is
     (grind (arith, common_steps)) (grind (arith, common_steps)) c.loop-i.invariant k d less
 
 pub returns : goal.returns

@@ -18,11 +18,13 @@ returns-in-Entered c =
     let tokens = map (token_to c.args.tag (value.Context x)) ds in
     let starts = started o c.args.tag x in
     let many : 0 + length tokens ≡ length ds = omega (arith, length-map ds (token_to c.args.tag (value.Context x))) in
-    let apart : numbered e.number e.position e.stamp 0 (tokens ++ starts) ≡ numbered e.number e.position e.stamp 0 tokens ++
+    let apart : numbered e.number e.position e.stamp 0 (tokens ++ starts)
+    ≡ numbered e.number e.position e.stamp 0 tokens ++
     numbered e.number e.position e.stamp (length ds) starts =
     numbered-append e.number e.position e.stamp 0 tokens starts
     ∙ ap (λ k. numbered e.number e.position e.stamp 0 tokens ++ numbered e.number e.position e.stamp k starts) many in
-    let whole : sent o ds c.args.tag (Entered x) ≡ sent o (arcs_on (side_of c.args.fired.now) c.args.instr.now) c.args.tag c.args.fired.now =
+    let whole : sent o ds c.args.tag (Entered x)
+    ≡ sent o (arcs_on (side_of c.args.fired.now) c.args.instr.now) c.args.tag c.args.fired.now =
     ap (λ xs. sent o xs c.args.tag (Entered x)) c.chosen-dests.ensures
     ∙ ap (λ f. sent o (arcs_on (side_of c.args.fired.now) c.args.instr.now) c.args.tag f) (sym c.in-Entered.is) in
     rw (c.send_start.ensures, c.send_all-in-Entered.ensures.messages, append_assoc, ← whole, apart) refl

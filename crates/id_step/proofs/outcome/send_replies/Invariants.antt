@@ -7,7 +7,8 @@ abbrev pub invariant-loop-number : goal.invariant-loop-number
 invariant-loop-number l = record {
   room : l.fn.outputs.room ≤ l.outputs.room + l.number;
   messages : l.outputs.messages
-      ≡ l.fn.outputs.messages ++ numbered l.envelope.number l.envelope.position l.envelope.stamp 0 (replies l.value (take l.number l.readers));
+      ≡ l.fn.outputs.messages
+      ++ numbered l.envelope.number l.envelope.position l.envelope.stamp 0 (replies l.value (take l.number l.readers));
   added : l.log.replies ≡ l.fn.log.replies ++ take l.number l.readers;
   left : l.log.room_for_replies + l.number ≡ l.fn.log.room_for_replies;
   events : l.log.events ≡ l.fn.log.events;

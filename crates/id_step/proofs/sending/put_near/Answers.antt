@@ -1,5 +1,6 @@
 -- One more destination has one more token, with the next number.
-use Rattle.std.proofs.Common.{◌≡◌, ◌<◌, ◌+◌, ◌-◌, ◌++◌, ◌∷◌, [], length, map, take, take_all, append_assoc, sym, ap, ◌∙◌, arith}
+use Rattle.std.proofs.Common.{◌≡◌, ◌<◌, ◌+◌, ◌-◌, ◌++◌, ◌∷◌, [], length, map, take, take_all, append_assoc, sym, ap}
+use Rattle.std.proofs.Common.{◌∙◌, arith}
 use Rattle.id_record.specs.Sends.{numbered, token_to}
 use Rattle.std.proofs.lemmas.Grind.{common_steps}
 use Rattle.id_tag.specs.Plains.{message_of, tag_in, whole}
@@ -14,7 +15,9 @@ loop-number-preserved c =
     let i = c.loop-number.number in
     let inside : i < length c.args.dests.now = omega (arith, c.loop-number-test.true) in
     let said = ap (λ m. m.payload) c.plain_under.ensures in
-    let more = numbered-more e.sender e.position e.stamp (tag_in a.token.now) (whole a.value) c.args.dests.now i _ (message_of r).payload inside said in
+    let more =
+    numbered-more e.sender e.position e.stamp (tag_in a.token.now) (whole a.value) c.args.dests.now i _
+    (message_of r).payload inside said in
     let same : message_of r ≡ numbered_as e.sender e.position e.stamp i (message_of r).payload =
     c.plain_under.ensures ∙ ap (λ x. numbered_as e.sender e.position e.stamp i x) (sym said) in (
       omega (arith, c.push_reserved.ensures.room, c.loop-number.invariant.0),
@@ -36,11 +39,19 @@ returns-clause-messages c =
     let count : n + 1 ≡ length ds = grind (arith, common_steps, many) in
     let whole_list : take (n + 1) ds ≡ ds = ap (λ k. take k ds) count ∙ take_all (length ds) ds (omega arith) in
     let said = ap (λ m. m.payload) c.put_next.ensures in
-    let more = numbered-more e.sender e.position e.stamp (tag_in a.token.now) (whole a.value) ds n _ (message_of r).payload inside said in
+    let more =
+    numbered-more e.sender e.position e.stamp (tag_in a.token.now) (whole a.value) ds n _ (message_of r).payload inside
+    said in
     let same : message_of r ≡ numbered_as e.sender e.position e.stamp n (message_of r).payload =
     c.put_next.ensures ∙ ap (λ x. numbered_as e.sender e.position e.stamp n x) (sym said) in
-    let sofar = ap (λ k. numbered e.sender e.position e.stamp 0 (map (token_to (tag_in a.token.now) (whole a.value)) (take k ds))) is in
-    let all = ap (λ xs. numbered e.sender e.position e.stamp 0 (map (token_to (tag_in a.token.now) (whole a.value)) xs)) whole_list in
+    let sofar =
+    ap (λ k. numbered e.sender e.position e.stamp 0 (map (token_to (tag_in a.token.now) (whole a.value)) (take k ds)))
+    is in
+    let all =
+    ap (λ xs. numbered e.sender e.position e.stamp 0 (map (token_to (tag_in a.token.now) (whole a.value)) xs))
+    whole_list in
     ap (λ xs. xs ++ message_of r ∷ []) c.loop-number.invariant.1
     ∙ append_assoc c.args.near.now.messages _ (message_of r ∷ [])
-    ∙ ap (λ xs. c.args.near.now.messages ++ xs) (ap (λ xs. xs ++ message_of r ∷ []) sofar ∙ ap (λ m. numbered e.sender e.position e.stamp 0 (map (token_to (tag_in a.token.now) (whole a.value)) (take n ds)) ++ m ∷ []) same ∙ sym more ∙ all)
+    ∙ ap (λ xs. c.args.near.now.messages ++ xs) (ap (λ xs. xs ++ message_of r ∷ []) sofar
+    ∙ ap (λ m. numbered e.sender e.position e.stamp 0 (map (token_to (tag_in a.token.now) (whole a.value)) (take n ds))
+    ++ m ∷ []) same ∙ sym more ∙ all)

@@ -10,7 +10,9 @@ loop-number-preserved c =
     let r = c.plain_to.result in
     let i = c.loop-number.number in
     let said = ap (λ m. m.payload) c.plain_to.ensures in
-    let more = numbered-more e.sender e.position e.stamp (tag_in e) (whole e.value) c.args.dests.now i _ (message_of r).payload c.loop-number-test.true said in
+    let more =
+    numbered-more e.sender e.position e.stamp (tag_in e) (whole e.value) c.args.dests.now i _ (message_of r).payload
+    c.loop-number-test.true said in
     let same : message_of r ≡ numbered_as e.sender e.position e.stamp i (message_of r).payload =
     c.plain_to.ensures ∙ ap (λ x. numbered_as e.sender e.position e.stamp i x) (sym said) in (
       omega (arith, c.push_plain_reserved.ensures.room, c.loop-number.invariant.0),

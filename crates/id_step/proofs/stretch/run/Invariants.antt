@@ -7,7 +7,8 @@ use Rattle.id_step.proofs.stretch.run.Given as goal
 
 abbrev pub invariant-loop-done : goal.invariant-loop-done
 invariant-loop-done g l = record {
-  hand : AtHand l.done l.most l.position (element_at l.fn.storage) (element_at l.storage) l.fn.list.messages (message_of l.token) l.near.messages l.list.messages;
+  hand : AtHand l.done l.most l.position (element_at l.fn.storage) (element_at l.storage) l.fn.list.messages
+      (message_of l.token) l.near.messages l.list.messages;
   own : l.graph ≡ l.storage.log.graph;
   room : length l.near.messages + l.most < l.list.room;
   room_near : l.most ≤ l.near.room;

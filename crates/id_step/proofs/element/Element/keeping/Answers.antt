@@ -8,7 +8,11 @@ invariant_of-result c = (
   record {
     replays = Replays-fresh _ (ap (λ e. e.state) c.new.ensures);
     valid = rw (ap (λ e. e.graph) c.new.ensures) c.graph.ensures.kept;
-    bound = rw (ap (λ e. e.graph) c.new.ensures, ap (λ e. e.number) c.new.ensures, ← c.graph.ensures.value) c.bound.ensures;
+    bound = rw (
+      ap (λ e. e.graph) c.new.ensures,
+      ap (λ e. e.number) c.new.ensures,
+      ← c.graph.ensures.value,
+    ) c.bound.ensures;
   },
   c.new-2.ensures,
 )

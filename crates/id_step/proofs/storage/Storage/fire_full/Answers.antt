@@ -6,5 +6,6 @@ use Rattle.id_step.proofs.storage.Storage.fire_full.Goals as goal
 
 pub send-requires-clause-second : goal.send-requires-clause-second
 send-requires-clause-second c =
-    HasSecond-valid c.args.self.now.log.graph c.args.token.now.instr (Some c.args.instr.now.op) c.requires.ready.graph c.requires.ready.valid
+    HasSecond-valid c.args.self.now.log.graph c.args.token.now.instr (Some c.args.instr.now.op) c.requires.ready.graph
+    c.requires.ready.valid
     (ap (option_map (λ i. i.op)) c.requires.ready.own)

@@ -12,8 +12,11 @@ returns-then-put_near-clause-comes g c = λ w comes.
     let a = c.args in
     took_fired a.self.now _ a.instr.now a.token.now a.stamp a.fired _ _ _ _ w c.requires.ready.own c.requires.ready.next
     c.requires.ready.short.stamp_is c.note_fired-mark.ensures.recorded
-    (ap (λ b. with_next b c.put_near.new.near.messages c.put_near.new.token) (sym c.if-put_near.true) ∙ c.put_near.ensures.messages
-    ∙ ap (λ (m : Mark). a.near.now.messages ++ numbered m.sender m.position m.stamp 0 (map (token_to (tag_in a.token.now) (whole a.value)) a.dests.now)) c.note_fired-mark.ensures.mark
+    (ap (λ b. with_next b c.put_near.new.near.messages c.put_near.new.token) (sym c.if-put_near.true)
+    ∙ c.put_near.ensures.messages
+    ∙ ap (λ (m : Mark). a.near.now.messages
+    ++ numbered m.sender m.position m.stamp 0 (map (token_to (tag_in a.token.now) (whole a.value)) a.dests.now))
+    c.note_fired-mark.ensures.mark
     ∙ puts_near a.fired a.instr.now a.token.now a.dests.now a.value _ _ _ _ c.requires.puts)
     (puts_none a.fired a.instr.now a.dests.now a.value _ _ c.requires.puts) comes
 
@@ -22,7 +25,10 @@ returns-else-put_near-clause-comes g c = λ w comes.
     let a = c.args in
     took_fired a.self.now _ a.instr.now a.token.now a.stamp a.fired _ _ _ _ w c.requires.ready.own c.requires.ready.next
     c.requires.ready.short.stamp_is c.note_fired-mark.ensures.recorded
-    (ap (λ b. with_next b c.put_near.new.near.messages c.put_near.new.token) (sym c.if-put_near.false) ∙ c.put_near.ensures.messages
-    ∙ ap (λ (m : Mark). a.near.now.messages ++ numbered m.sender m.position m.stamp 0 (map (token_to (tag_in a.token.now) (whole a.value)) a.dests.now)) c.note_fired-mark.ensures.mark
+    (ap (λ b. with_next b c.put_near.new.near.messages c.put_near.new.token) (sym c.if-put_near.false)
+    ∙ c.put_near.ensures.messages
+    ∙ ap (λ (m : Mark). a.near.now.messages
+    ++ numbered m.sender m.position m.stamp 0 (map (token_to (tag_in a.token.now) (whole a.value)) a.dests.now))
+    c.note_fired-mark.ensures.mark
     ∙ puts_near a.fired a.instr.now a.token.now a.dests.now a.value _ _ _ _ c.requires.puts)
     (puts_none a.fired a.instr.now a.dests.now a.value _ _ c.requires.puts) comes

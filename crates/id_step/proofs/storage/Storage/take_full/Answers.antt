@@ -18,11 +18,14 @@ returns-in-Went-clause-comes g c = λ w comes.
     let i = c.args.instr.now in
     let o = c.args.operands in
     let xs = outputs_at d c.args.stamp (token_sends i (tag_in t) (fired_by d i t o)) in
-    took_well _ _ (message_of t) (tag_in t) _ _ _ _ (full_step (message_of t).payload (fired_verdict (fired_by d i t o))) _ done.step c.in-Went.is (record {
+    took_well _ _ (message_of t) (tag_in t) _ _ _ _
+    (full_step (message_of t).payload (fired_verdict (fired_by d i t o))) _ done.step c.in-Went.is (record {
       sent = xs;
       takes = treats w d _ t i _ _ _ [] xs (step_full _ _ _ _ _ _ o c.requires.ready.own comes)
           c.requires.ready.next c.requires.ready.short.stamp_is done.recorded refl;
-      spreads = spreads_full (message_of t) _ _ _ c.give_back.new.list.messages _ xs c.give_back.ensures.empty c.give_back.ensures.messages done.sent;
+      spreads =
+          spreads_full (message_of t) _ _ _ c.give_back.new.list.messages _ xs c.give_back.ensures.empty
+          c.give_back.ensures.messages done.sent;
     })
 
 pub returns-in-Failed-clause-comes : goal.returns-in-Failed-clause-comes
@@ -38,6 +41,8 @@ returns-in-Failed-clause-comes g c = λ w comes.
         sent = xs;
         takes = treats w d _ t i _ _ _ [] xs (step_full _ _ _ _ _ _ o c.requires.ready.own comes)
             c.requires.ready.next c.requires.ready.short.stamp_is done.recorded refl;
-        spreads = spreads_full (message_of t) _ _ _ c.give_back.new.list.messages _ xs c.give_back.ensures.empty c.give_back.ensures.messages done.sent;
+        spreads =
+            spreads_full (message_of t) _ _ _ c.give_back.new.list.messages _ xs c.give_back.ensures.empty
+            c.give_back.ensures.messages done.sent;
       },
     )
