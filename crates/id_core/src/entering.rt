@@ -1,7 +1,8 @@
-//! Which inputs are for a graph: what `Machine::new` asks of them.
+//! Which inputs are for a graph: what `Machine::new` asks of them, and a graph with such inputs.
 
 ghost use Rattle.std.specs.Prelude.{◌≡◌, ◌↔◌, IsTrue, length};
 ghost use Rattle.id_instr.specs.declared.instr.Op.TheVariants.{Merge};
+ghost use Rattle.id_core.specs.Kept.{TakesInputs-prop};
 ghost use Rattle.id_core.specs.Machines.{AreTaken, TakesInputs};
 
 use id_instr::{Graph, Op, PortKind};
@@ -10,6 +11,16 @@ use id_source::Inputs;
 use id_step::op_at;
 use id_valid::Valid;
 use id_value::Constant;
+
+/// A graph with inputs, lent: what a machine starts with.
+///
+/// Keeps: these are inputs for the graph: one for each entry of main's block, of its kind.
+#[derive(Clone, Copy)]
+pub struct Start<'a, 'i> {
+    pub graph: &'a Valid,
+    pub inputs: &'i Inputs,
+    pub ghost taken: { TakesInputs graph.now inputs.now.values } by { TakesInputs-prop graph.now inputs.now.values },
+}
 
 /// Whether these are inputs for the graph: one for each entry of main's block, of its kind. It tests the condition of
 /// `Machine::new`. Takes no memory.

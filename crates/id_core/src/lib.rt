@@ -12,7 +12,7 @@ mod entering;
 mod machine;
 
 pub use counts::{Count, MAX_ELEMENTS};
-pub use entering::takes_inputs;
+pub use entering::{Start, takes_inputs};
 pub use id_observe::{CellValue, Holdings, Merged, Observed, merge_records, observe_records};
 pub use id_record::{Event, Events, Fault, Keeps, Outputs, Step};
 pub use id_step::{Element, Gate, Handling, Open, TakeError, fits};

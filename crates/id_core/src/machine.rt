@@ -8,11 +8,12 @@ ghost use Rattle.id_tag.specs.declared.Payload.TheVariants.{Token};
 ghost use Rattle.id_record.specs.Events.{AllWent};
 ghost use Rattle.id_step.specs.Fits.{Fits};
 ghost use Rattle.id_step.specs.Steps.{fresh};
-ghost use Rattle.id_core.specs.Machines.{AllKeep, AreElements, TakesInputs};
+ghost use Rattle.id_core.specs.Machines.{AllKeep, AreElements};
 ghost use Rattle.id_core.specs.Machines.{input_messages, start_message, start_messages};
 ghost use Rattle.id_observe.specs.Observed.{main_tag};
 
 use crate::counts::Count;
+use crate::entering::Start;
 use id_flight::Queue;
 use id_instr::Port;
 use id_observe::{
@@ -145,30 +146,28 @@ impl<'a> Machine<'a> {
         let Some(count) = Count::new(count) else {
             return Err(MachineError::BadElements);
         };
-        let machine = Machine::begin(alloc, graph, inputs, count, keeps)?;
+        let machine = Machine::begin(alloc, Start { graph, inputs }, count, keeps)?;
         Ok(machine)
     }
 
     /// The same, of so many as a machine may have.
     pub fn begin(
         alloc: Global,
-        graph: &'a Valid,
-        inputs: &Inputs,
+        from: Start<'a, '_>,
         count: Count,
         keeps: Keeps,
     ) -> Result<Machine<'a>, AllocError>
-        requires { TakesInputs graph.now inputs.now.values }
         ensures { IfOk result (λ m. m ≡ record {
-          graph = graph.now;
+          graph = from.entry.graph.now;
           count = count.number;
           keeps = keeps;
-          world = start graph.now inputs.now.values count.number;
+          world = start from.entry.graph.now from.entry.inputs.now.values count.number;
         }) }
     {
-        let elements = fresh_elements(alloc, graph, count, keeps)?;
-        let flight = start_flight(alloc, graph, inputs)?;
+        let elements = fresh_elements(alloc, from.graph, count, keeps)?;
+        let flight = start_flight(alloc, from)?;
         Ok(Machine {
-            graph,
+            graph: from.graph,
             keeps,
             elements,
             flight,
@@ -373,14 +372,14 @@ pub fn fresh_elements<'a>(
     Ok(elements)
 }
 
-/// The start messages: those in flight at the start of a machine of this graph with these inputs.
-pub fn start_flight(alloc: Global, graph: &Valid, inputs: &Inputs) -> Result<Queue, AllocError>
-    requires { TakesInputs graph.now inputs.now.values }
-    ensures messages { IfOk result (λ q. q.messages ≡ start_messages graph.now inputs.now.values) }
-    ensures fit { IfOk result (λ q. All (Fits graph.now) q.messages) }
+/// The start messages: those in flight at the start of a machine of the graph with the inputs.
+pub fn start_flight(alloc: Global, from: Start<'_, '_>) -> Result<Queue, AllocError>
+    ensures messages { IfOk result
+        (λ q. q.messages ≡ start_messages from.entry.graph.now from.entry.inputs.now.values) }
+    ensures fit { IfOk result (λ q. All (Fits from.entry.graph.now) q.messages) }
 {
-    let block = graph.main_block();
-    let within = (block.first as usize) + 1 < graph.graph().instrs().len();
+    let block = from.graph.main_block();
+    let within = (block.first as usize) + 1 < from.graph.graph().instrs().len();
     prove!(within);
     let mut flight = Queue::new(alloc);
     let trigger = start_message(0, block.first, Value::Signal);
@@ -388,7 +387,7 @@ pub fn start_flight(alloc: Global, graph: &Valid, inputs: &Inputs) -> Result<Que
     let back = start_message(1, block.first + 1, Value::Continuation(main_tag(0)));
     flight.push_back(back)?;
     let entries = block.entries.as_slice();
-    add_inputs(entries, inputs.values.as_slice(), &mut flight)?;
+    add_inputs(entries, from.inputs.values.as_slice(), &mut flight)?;
     Ok(flight)
 }
 

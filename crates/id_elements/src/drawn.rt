@@ -11,7 +11,7 @@ use crate::ended::Run;
 use crate::finish::{deliver, first_free, is_held_back};
 use crate::running::{moves_on, replay_all};
 use crate::settings::{Allowed, MAX_STEPS, RunError, Settings};
-use id_core::{Count, Machine};
+use id_core::{Count, Machine, Start};
 use id_source::Inputs;
 use id_valid::Valid;
 use rand_core::{Rng, SeedableRng};
@@ -90,20 +90,21 @@ fn deliver_drawn(
 /// The run of the machine in the order that the seed gives.
 fn run_drawn<'a>(
     alloc: Global,
-    graph: &'a Valid,
-    inputs: &Inputs,
+    from: Start<'a, '_>,
     allowed: Allowed,
     seed: u64,
 ) -> Result<Run<'a>, RunError>
-    requires { TakesInputs graph.now inputs.now.values }
-    ensures run { IfOk result (IsRun graph.now inputs.now.values allowed.count.number allowed.steps) }
+    ensures run { IfOk result
+        (IsRun from.entry.graph.now from.entry.inputs.now.values allowed.count.number allowed.steps) }
     ensures kept { IfOk result (λ r. r.keeps ≡ allowed.keeps) }
     ensures moves { IfOk result (λ r. MovesOn r.world) }
-    ensures positions { IfOk result (λ r. IsByPositions graph.now inputs.now.values allowed.count.number r.world) }
-    ensures refused { IfErr result (IsRefusedRun graph.now inputs.now.values allowed.count.number allowed.steps) }
+    ensures positions { IfOk result
+        (λ r. IsByPositions from.entry.graph.now from.entry.inputs.now.values allowed.count.number r.world) }
+    ensures refused { IfErr result
+        (IsRefusedRun from.entry.graph.now from.entry.inputs.now.values allowed.count.number allowed.steps) }
 {
     id_runs::orders_are_runs();
-    let mut machine = Machine::begin(alloc, graph, inputs, allowed.count, allowed.keeps)?;
+    let mut machine = Machine::begin(alloc, from, allowed.count, allowed.keeps)?;
     let mut rng = Pcg64Mcg::seed_from_u64(seed);
     deliver_drawn(&mut machine, &mut rng, allowed.steps)?;
     replay_all(&machine);
@@ -146,5 +147,5 @@ pub fn run_in_order<'a>(
         steps: settings.steps,
         keeps: settings.keeps,
     };
-    run_drawn(alloc, graph, inputs, allowed, seed)
+    run_drawn(alloc, Start { graph, inputs }, allowed, seed)
 }

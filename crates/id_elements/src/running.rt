@@ -27,7 +27,7 @@ use crate::home::Home;
 use crate::settings::{Allowed, MAX_STEPS, RunError, Settings};
 use crate::shared::Shared;
 use crate::worker::{Left, Worker};
-use id_core::{Count, Element, Gate, Keeps, Machine, start_flight};
+use id_core::{Count, Element, Gate, Keeps, Machine, Start, start_flight};
 use id_flight::Queue;
 use id_inbox::Door;
 use id_source::Inputs;
@@ -250,23 +250,22 @@ fn run_workers<'a, R: Threads + Wait + Sync, G: Gate + Sync>(
 fn machine_of<'a, R: Threads + Wait + Sync, G: Gate + Sync>(
     rt: &R,
     alloc: Global,
-    graph: &'a Valid,
-    inputs: &Inputs,
+    from: Start<'a, '_>,
     allowed: Allowed,
     limit: u32,
     gate: &G,
 ) -> Result<Machine<'a>, AllocError>
-    requires { TakesInputs graph.now inputs.now.values }
-    ensures graph { IfOk result (λ m. m.graph ≡ graph.now) }
+    ensures graph { IfOk result (λ m. m.graph ≡ from.entry.graph.now) }
     ensures count { IfOk result (λ m. m.count ≡ allowed.count.number) }
     ensures kept { IfOk result (λ m. m.keeps ≡ allowed.keeps) }
     ensures few { IfOk result (λ m. All (λ s. length s.events ≤ allowed.steps) m.world.elements) }
     ensures stops { IfOk result (λ m. StopAtFaults m.world) }
-    ensures accounted { IfOk result (λ m. IsAccounted (start_messages graph.now inputs.now.values) m.world.elements
-        m.world.flight) }
+    ensures accounted { IfOk result (λ m. IsAccounted (start_messages from.entry.graph.now from.entry.inputs.now.values)
+        m.world.elements m.world.flight) }
 {
     id_runs::orders_are_runs();
-    let start = start_flight(alloc, graph, inputs)?;
+    let graph = from.graph;
+    let start = start_flight(alloc, from)?;
     let Gathered { elements, left } = run_workers(rt, alloc, graph, &start, allowed, limit, gate)?;
     Ok(Machine::resume(graph, allowed.keeps, elements, left))
 }
@@ -306,20 +305,20 @@ pub fn replay_all(machine: &Machine<'_>)
 fn run_allowed<'a, R: Threads + Wait + Sync, G: Gate + Sync>(
     rt: &R,
     alloc: Global,
-    graph: &'a Valid,
-    inputs: &Inputs,
+    from: Start<'a, '_>,
     allowed: Allowed,
     limit: u32,
     gate: &G,
 ) -> Result<Run<'a>, RunError>
-    requires { TakesInputs graph.now inputs.now.values }
-    ensures run { IfOk result (IsRun graph.now inputs.now.values allowed.count.number allowed.steps) }
+    ensures run { IfOk result
+        (IsRun from.entry.graph.now from.entry.inputs.now.values allowed.count.number allowed.steps) }
     ensures kept { IfOk result (λ r. r.keeps ≡ allowed.keeps) }
     ensures moves { IfOk result (λ r. MovesOn r.world) }
-    ensures refused { IfErr result (IsRefusedRun graph.now inputs.now.values allowed.count.number allowed.steps) }
+    ensures refused { IfErr result
+        (IsRefusedRun from.entry.graph.now from.entry.inputs.now.values allowed.count.number allowed.steps) }
 {
     id_runs::orders_are_runs();
-    let mut machine = machine_of(rt, alloc, graph, inputs, allowed, limit, gate)?;
+    let mut machine = machine_of(rt, alloc, from, allowed, limit, gate)?;
     finish(rt, &mut machine, allowed.steps)?;
     replay_all(&machine);
     if !moves_on(&machine) {
@@ -363,7 +362,7 @@ pub fn run_limited<'a, R: Threads + Wait + Sync, G: Gate + Sync>(
         steps: settings.steps,
         keeps: settings.keeps,
     };
-    run_allowed(rt, alloc, graph, inputs, allowed, workers, gate)
+    run_allowed(rt, alloc, Start { graph, inputs }, allowed, workers, gate)
 }
 
 /// Runs the graph on these inputs, with a thread for each element, as `run_limited` does with that limit, or, where the

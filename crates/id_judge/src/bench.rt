@@ -5,7 +5,7 @@ ghost use Rattle.std.specs.Prelude.{Some, None, Ok, Err, IfOk, IfSome, OnOk};
 ghost use Rattle.id_step.specs.declared.step.TakeError.TheVariants.{StampEnd};
 ghost use Rattle.id_step.specs.Steps.{fresh};
 ghost use Rattle.id_record.specs.declared.kept.Keeps.TheVariants as kept;
-ghost use Rattle.id_core.specs.Machines.{AllKeep, AreElements, TakesInputs, start};
+ghost use Rattle.id_core.specs.Machines.{AllKeep, AreElements, start};
 ghost use Rattle.id_record.specs.Events.{EventView};
 ghost use Rattle.id_tag.specs.declared.Message.{Message};
 ghost use Rattle.id_judge.specs.Benches.{Delivers, Differs, IsBench, IsEnded, IsLast, Replaces};
@@ -16,9 +16,8 @@ ghost use Rattle.id_judge.specs.Verdicts.{Follows, IsCause, told};
 use crate::given::{Given, is_given};
 use crate::pool::Pool;
 use crate::verdict::Cause;
-use id_core::{Element, Event, Keeps, Machine, Step, TakeError, start_flight};
+use id_core::{Element, Event, Keeps, Machine, Start, Step, TakeError, start_flight};
 use id_flight::Queue;
-use id_source::Inputs;
 use id_tag::{Message, route};
 use id_valid::Valid;
 use std::alloc::{AllocError, Global};
@@ -54,26 +53,24 @@ impl<'a> Model for Bench<'a> {
 /// The machine of so many elements at its start, each of which keeps so much of its events.
 pub fn start_bench<'a>(
     alloc: Global,
-    graph: &'a Valid,
-    inputs: &Inputs,
+    from: Start<'a, '_>,
     count: u32,
     keeps: Keeps,
 ) -> Result<Bench<'a>, AllocError>
-    requires inputs { TakesInputs graph.now inputs.now.values }
     requires at_least_one { 0 < count }
     requires at_most_64 { count ≤ 64 }
     ensures bench { IfOk result IsBench }
-    ensures graph { IfOk result (λ b. b.graph ≡ graph.now) }
+    ensures graph { IfOk result (λ b. b.graph ≡ from.entry.graph.now) }
     ensures keeps { IfOk result (λ b. b.keeps ≡ keeps) }
     ensures count { IfOk result (λ b. length b.elements ≡ count) }
-    ensures world { IfOk result (λ b. world_in b ≡ start graph.now inputs.now.values count) }
+    ensures world { IfOk result (λ b. world_in b ≡ start from.entry.graph.now from.entry.inputs.now.values count) }
 {
-    let elements = fresh_elements(alloc, graph, count, keeps)?;
-    let mut sent = start_flight(alloc, graph, inputs)?;
+    let elements = fresh_elements(alloc, from.graph, count, keeps)?;
+    let mut sent = start_flight(alloc, from)?;
     let mut flight = Pool::new(alloc);
     send(&mut flight, &mut sent)?;
     Ok(Bench {
-        graph,
+        graph: from.graph,
         keeps,
         elements,
         flight,

@@ -8,7 +8,7 @@ ghost use Rattle.id_judge.specs.Verdicts.{IsVerdict};
 use crate::bench::{end_bench, follow, start_bench};
 use crate::given::Given;
 use crate::verdict::Verdict;
-use id_core::{Keeps, MAX_ELEMENTS, MachineError};
+use id_core::{Keeps, MAX_ELEMENTS, MachineError, Start};
 use id_source::Inputs;
 use id_valid::Valid;
 use std::alloc::Global;
@@ -29,7 +29,7 @@ pub fn judge_events<'a>(
     if count == 0 || count > MAX_ELEMENTS {
         return Err(MachineError::BadElements);
     }
-    let mut bench = start_bench(alloc, graph, inputs, count, Keeps::All)?;
+    let mut bench = start_bench(alloc, Start { graph, inputs }, count, Keeps::All)?;
     let many = events.len();
     for position in 0..many {
         if let Some(cause) = follow(&mut bench, &events[position])? {

@@ -16,7 +16,7 @@ use crate::bench::{Bench, end_bench, start_bench, tell_small};
 use crate::line::{Line, empty_line};
 use crate::lines::{first_stamps, follow_line};
 use crate::verdict::{Cause, Verdict};
-use id_core::{Keeps, MAX_ELEMENTS, Machine, MachineError};
+use id_core::{Keeps, MAX_ELEMENTS, Machine, MachineError, Start};
 use id_source::Inputs;
 use id_valid::Valid;
 use std::alloc::{AllocError, Global};
@@ -52,7 +52,7 @@ impl<'a> Judge<'a> {
         if count == 0 || count > MAX_ELEMENTS {
             return Err(MachineError::BadElements);
         }
-        let bench = start_bench(alloc, graph, inputs, count, keeps)?;
+        let bench = start_bench(alloc, Start { graph, inputs }, count, keeps)?;
         tell_small(&bench);
         let stamps = first_stamps(alloc, count)?;
         Ok(Judge {

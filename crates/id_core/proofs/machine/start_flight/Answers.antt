@@ -8,11 +8,12 @@ use Rattle.id_core.proofs.machine.start_flight.Goals as goal
 
 -- the messages in flight
 messages : (c : goal.In_ok-add_inputs)
-    → c.add_inputs.new.flight.messages ≡ block_messages (c.main_block-block.result.now ∷ []) c.args.inputs.now.values
+    → c.add_inputs.new.flight.messages
+    ≡ block_messages (c.main_block-block.result.now ∷ []) c.args.from.inputs.now.values
 messages c =
     let first : c.push_back-2.new.self.messages
-    ++ input_messages 2 c.main_block-block.result.now.entries c.args.inputs.now.values
-    ≡ block_messages (c.main_block-block.result.now ∷ []) c.args.inputs.now.values =
+    ++ input_messages 2 c.main_block-block.result.now.entries c.args.from.inputs.now.values
+    ≡ block_messages (c.main_block-block.result.now ∷ []) c.args.from.inputs.now.values =
     first_of (search rules, grind (arith, common_steps)) in
     rw (c.in_ok-add_inputs.ensures, c.as_slice-entries.ensures, c.as_slice.ensures) first
 
@@ -24,13 +25,13 @@ pub returns-clause-fit : goal.returns-clause-fit
 returns-clause-fit c =
     let block = c.main_block-block.result.now in
     rw (messages c)
-    (start_fits c.args.graph.now block c.args.inputs.now.values c.main_block-block.ensures.main
+    (start_fits c.args.from.graph.now block c.args.from.inputs.now.values c.main_block-block.ensures.main
     c.main_block-block.ensures.kept
-    (c.requires.taken block c.main_block-block.ensures.main))
+    (c.args.from.taken.taken block c.main_block-block.ensures.main))
 
 pub add_inputs-requires : goal.add_inputs-requires
 add_inputs-requires c =
     let block = c.main_block-block.result.now in
     rw (c.as_slice-entries.ensures, c.as_slice.ensures)
-    (length-taken c.args.graph.now block.entries c.args.inputs.now.values
-    (c.requires.taken block c.main_block-block.ensures.main))
+    (length-taken c.args.from.graph.now block.entries c.args.from.inputs.now.values
+    (c.args.from.taken.taken block c.main_block-block.ensures.main))

@@ -7,7 +7,7 @@ use Rattle.id_elements.proofs.running.run_allowed.Goals as goal
 pub returns-then-not-moves_on-clause-refused : goal.returns-then-not-moves_on-clause-refused
 returns-then-not-moves_on-clause-refused g c = record {
   machine = c.finish.new.machine;
-  run = run_from c.args.graph.now c.args.inputs.now.values c.args.allowed.count.number c.args.allowed.steps
+  run = run_from c.args.from.graph.now c.args.from.inputs.now.values c.args.allowed.count.number c.args.allowed.steps
       c.in_ok-machine.machine c.finish.new.machine
       c.orders_are_runs.ensures c.in_ok-machine.ensures.graph c.in_ok-machine.ensures.count
       c.in_ok-machine.ensures.accounted c.in_ok-machine.ensures.stops c.in_ok-finish.ensures c.replay_all.ensures;
@@ -16,9 +16,9 @@ returns-then-not-moves_on-clause-refused g c = record {
 
 pub returns-clause-run : goal.returns-clause-run
 returns-clause-run g c =
-    subst (IsRun c.args.graph.now c.args.inputs.now.values c.args.allowed.count.number c.args.allowed.steps)
+    subst (IsRun c.args.from.graph.now c.args.from.inputs.now.values c.args.allowed.count.number c.args.allowed.steps)
     (sym c.of.ensures)
-    (run_from c.args.graph.now c.args.inputs.now.values c.args.allowed.count.number c.args.allowed.steps
+    (run_from c.args.from.graph.now c.args.from.inputs.now.values c.args.allowed.count.number c.args.allowed.steps
     c.in_ok-machine.machine c.finish.new.machine
     c.orders_are_runs.ensures c.in_ok-machine.ensures.graph c.in_ok-machine.ensures.count
     c.in_ok-machine.ensures.accounted c.in_ok-machine.ensures.stops c.in_ok-finish.ensures c.replay_all.ensures)
