@@ -20,6 +20,7 @@ returns-in_err-add_unary_by c = on_ok _ c.from_residual.result c.from_residual.e
 
 pub returns : goal.returns
 returns c =
-    gathered-all (unaries c.args.point.path c.args.point.row c.args.op) refl c.args.operands.now c.loop-operand.operand-index _ _
+    gathered-all (unaries c.args.point.path c.args.point.row c.args.op) refl c.args.operands.now
+    c.loop-operand.operand-index _ _
     c.loop-operand-test.false
     c.loop-operand.invariant

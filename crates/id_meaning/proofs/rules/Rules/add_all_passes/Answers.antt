@@ -21,6 +21,7 @@ returns-in_err-add_pass_by c = on_ok _ c.from_residual.result c.from_residual.en
 
 pub returns : goal.returns
 returns c =
-    gathered-all (all_passes c.args.self.now.checked.now c.args.self.now.cells.now c.args.enter.path c.args.value c.args.enter.row
+    gathered-all
+    (all_passes c.args.self.now.checked.now c.args.self.now.cells.now c.args.enter.path c.args.value c.args.enter.row
     c.args.index) refl c.args.rows.now
     c.loop-row.row-index _ _ c.loop-row-test.false c.loop-row.invariant
