@@ -5,12 +5,12 @@ ghost use Rattle.id_meaning.specs.Effects.{all_passed, all_passes, body_in, call
 ghost use Rattle.id_meaning.specs.Effects.{entered, entered_by, param_haves, param_row, pass_by, pass_of, passed_of};
 
 use crate::given::add_seen;
-use crate::rules::Rules;
+use crate::rules::{Lookup, Rules};
 use id_check::Checked;
-use id_facts::{RowFact, RowValue, Trail, add_values};
+use id_facts::{Cells, Point, RowFact, RowValue, Trail, add_values};
 use id_source::{binder_of, node_of};
 use id_table::Node;
-use std::alloc::{AllocError, Global};
+use std::alloc::AllocError;
 
 /// A call that is On.
 #[derive(Clone, Copy)]
@@ -25,100 +25,59 @@ pub struct OnCall {
 }
 
 impl Rules<'_> {
-    /// The call at the row at the path, if it is On.
-    fn entered(&self, path: Trail, row: usize) -> Option<OnCall>
-        ensures { result ≡ entered self.now.checked.now self.now.cells.now path row }
-    {
-        match node_of(self.checked, row) {
-            Node::Call { enter, .. } => {
-                entered_by(
-                    enter,
-                    self.cells.find(path, row),
-                    callee(self.checked, enter),
-                )
-            }
-            _ => None,
-        }
-    }
-
-    /// Adds the facts that come by the call at the row at the path, if it is On, where this fact is followed.
+    /// Adds the facts that come by the call at the row at the path, if it is On.
     pub fn add_call(
         &self,
-        alloc: Global,
         found: &mut Vec<RowFact>,
-        followed: RowFact,
-        path: Trail,
-        row: usize,
+        lookup: &Lookup<'_>,
+        point: Point,
     ) -> Result<(), AllocError>
         ensures { OnOk result (found.new.items ≡ found.old.items
-            ++ call_at self.now.checked.now self.now.links.now self.now.cells.now followed path row) }
+            ++ call_at self.now.checked.now self.now.links.now lookup.now.cells.now lookup.now.followed point.path
+            point.row) }
     {
-        match self.entered(path, row) {
-            Some(call) => { self.add_called(alloc, found, followed, path, row, call) }
+        match entered(self.checked, lookup.cells, point.path, point.row) {
+            Some(call) => self.add_called(found, lookup, point, call),
             None => Ok(()),
         }
     }
 
-    /// Adds the facts that come by this call at the row at the path, which is On, where this fact is followed.
+    /// Adds the facts that come by this call at the row at the path, which is On.
     fn add_called(
         &self,
-        alloc: Global,
         found: &mut Vec<RowFact>,
-        followed: RowFact,
-        path: Trail,
-        row: usize,
+        lookup: &Lookup<'_>,
+        point: Point,
         call: OnCall,
     ) -> Result<(), AllocError>
         ensures { OnOk result (found.new.items ≡ found.old.items
-            ++ call_by self.now.checked.now self.now.links.now self.now.cells.now followed path row (Some call)) }
+            ++ call_by self.now.checked.now self.now.links.now lookup.now.cells.now lookup.now.followed point.path
+            point.row (Some call)) }
     {
         let body = call.body;
         found.push(RowFact::On {
             path: call.path,
             row: body,
         })?;
-        add_seen(
-            alloc,
-            found,
-            self.cells,
-            followed,
-            path,
-            row,
-            call.path,
-            Some(body),
-        )?;
-        self.add_all_passed(
-            alloc,
-            found,
-            followed,
-            path,
-            call,
-            self.links.args.of(call.enter),
-        )
+        add_seen(found, lookup, point, call.path, Some(body))?;
+        let rows = self.links.args.of(call.enter);
+        self.add_all_passed(found, lookup, point.path, call, rows)
     }
 
     /// Adds the facts that come by the arguments of the call at these rows.
     fn add_all_passed(
         &self,
-        alloc: Global,
         found: &mut Vec<RowFact>,
-        followed: RowFact,
+        lookup: &Lookup<'_>,
         path: Trail,
         call: OnCall,
         rows: &[usize],
     ) -> Result<(), AllocError>
         ensures { OnOk result (found.new.items ≡ found.old.items
-            ++ all_passed self.now.checked.now self.now.cells.now followed path call rows.now) }
+            ++ all_passed self.now.checked.now lookup.now.cells.now lookup.now.followed path call rows.now) }
     {
         for row in rows {
-            self.add_passed(
-                alloc,
-                found,
-                followed,
-                path,
-                call,
-                node_of(self.checked, *row),
-            )?;
+            self.add_passed(found, lookup, path, call, node_of(self.checked, *row))?;
         }
         Ok(())
     }
@@ -126,15 +85,14 @@ impl Rules<'_> {
     /// Adds the facts that come by a row of this node, if it is an argument of the call.
     fn add_passed(
         &self,
-        alloc: Global,
         found: &mut Vec<RowFact>,
-        followed: RowFact,
+        lookup: &Lookup<'_>,
         path: Trail,
         call: OnCall,
         node: Node,
     ) -> Result<(), AllocError>
         ensures { OnOk result (found.new.items ≡ found.old.items
-            ++ passed_of self.now.checked.now self.now.cells.now followed path call node) }
+            ++ passed_of self.now.checked.now lookup.now.cells.now lookup.now.followed path call node) }
     {
         match node {
             Node::Arg {
@@ -144,7 +102,7 @@ impl Rules<'_> {
             } if enter as usize == call.enter => {
                 let value = value as usize;
                 found.push(RowFact::On { path, row: value })?;
-                let values = self.cells.values(alloc, followed, path, value)?;
+                let values = lookup.values(path, value)?;
                 let param = param_row(self.checked.table.rows.len(), call.head, index as usize);
                 add_param(found, call.path, param, values.as_slice())
             }
@@ -157,52 +115,60 @@ impl Rules<'_> {
     pub fn add_pass(
         &self,
         found: &mut Vec<RowFact>,
-        path: Trail,
-        row: usize,
+        point: Point,
         value: RowValue,
         node: Node,
     ) -> Result<(), AllocError>
         ensures { OnOk result (found.new.items ≡ found.old.items
-            ++ pass_of self.now.checked.now self.now.links.now self.now.cells.now path row value node) }
+            ++ pass_of self.now.checked.now self.now.links.now self.now.cells.now point.path point.row value node) }
     {
         match node {
             Node::Arg {
                 enter,
                 index,
                 value: read,
-            } if read as usize == row => {
-                self.add_all_passes(
-                    found,
-                    path,
-                    value,
-                    enter as usize,
-                    index as usize,
-                    self.links.reads.of(enter as usize),
-                )
+            } if read as usize == point.row => {
+                let rows = self.links.reads.of(enter as usize);
+                let enter = Point {
+                    path: point.path,
+                    row: enter as usize,
+                };
+                self.add_all_passes(found, enter, value, index as usize, rows)
             }
             _ => Ok(()),
         }
     }
 
     /// Adds that the parameter of this index Has the value, in each of the calls of the `Enter` at these rows that is
-    /// On.
+    /// On at its path.
     fn add_all_passes(
         &self,
         found: &mut Vec<RowFact>,
-        path: Trail,
+        enter: Point,
         value: RowValue,
-        enter: usize,
         index: usize,
         rows: &[usize],
     ) -> Result<(), AllocError>
         ensures { OnOk result (found.new.items ≡ found.old.items
-            ++ all_passes self.now.checked.now self.now.cells.now path value enter index rows.now) }
+            ++ all_passes self.now.checked.now self.now.cells.now enter.path value enter.row index rows.now) }
     {
         for row in rows {
-            let call = self.entered(path, *row);
-            add_pass_by(found, self.checked, enter, index, value, call)?;
+            let call = entered(self.checked, self.cells, enter.path, *row);
+            add_pass_by(found, self.checked, enter.row, index, value, call)?;
         }
         Ok(())
+    }
+}
+
+/// The call at the row at the path, if it is On.
+fn entered(checked: &Checked, cells: &Cells, path: Trail, row: usize) -> Option<OnCall>
+    ensures { result ≡ entered checked.now cells.now path row }
+{
+    match node_of(checked, row) {
+        Node::Call { enter, .. } => {
+            entered_by(enter, cells.find(path, row), callee(checked, enter))
+        }
+        _ => None,
     }
 }
 

@@ -8,11 +8,10 @@ ghost use Rattle.id_meaning.specs.Given.{seen};
 ghost use Rattle.id_meaning.specs.Effects.{begin_at, begin_by, counted, counted_by, counted_on, counted_with};
 ghost use Rattle.id_meaning.specs.Effects.{counting_by, counting_of, goes_on, index_at, index_woken};
 
-use crate::given::seen;
-use crate::loops::Iteration;
-use crate::rules::Rules;
+use crate::loops::{Iteration, iteration_of};
+use crate::rules::{Lookup, Rules};
 use id_check::Checked;
-use id_facts::{RowFact, RowValue, Trail, Wait, add_has, add_ons, next_of};
+use id_facts::{Cells, Point, RowFact, RowValue, Trail, Wait, add_has, add_ons, next_of};
 use id_source::{Links, awaited, block_of, distance, lower_at, node_of, upper_at};
 use id_table::Node;
 use std::alloc::{AllocError, Global};
@@ -31,20 +30,19 @@ pub struct Counting {
 }
 
 impl Rules<'_> {
-    /// Adds the facts that come by the bounds of the loop at the row at the path, where it is On and this fact is
-    /// followed.
+    /// Adds the facts that come by the bounds of the loop at the row at the path, where it is On.
     pub fn add_begin(
         &self,
-        alloc: Global,
         found: &mut Vec<RowFact>,
-        followed: RowFact,
-        path: Trail,
-        row: usize,
+        lookup: &Lookup<'_>,
+        point: Point,
     ) -> Result<(), AllocError>
         ensures { OnOk result (found.new.items ≡ found.old.items
-            ++ begin_at self.now.checked.now self.now.links.now self.now.cells.now followed path row) }
+            ++ begin_at self.now.checked.now self.now.links.now lookup.now.cells.now lookup.now.followed point.path
+            point.row) }
     {
-        match (self.cells.find(path, row), node_of(self.checked, row)) {
+        let spot = lookup.cells.find(point.path, point.row);
+        match (spot, node_of(self.checked, point.row)) {
             (
                 Some(spot),
                 Node::Loop {
@@ -60,8 +58,7 @@ impl Rules<'_> {
                     last: last as usize,
                     first: true,
                 };
-                let head = head as usize;
-                self.add_bounded(alloc, found, followed, path, head, counting)
+                self.add_bounded(found, lookup, point.path, head as usize, counting)
             }
             _ => Ok(()),
         }
@@ -70,21 +67,20 @@ impl Rules<'_> {
     /// Adds the facts that come by the bounds of the loop with this head at the path, where it may begin.
     fn add_bounded(
         &self,
-        alloc: Global,
         found: &mut Vec<RowFact>,
-        followed: RowFact,
+        lookup: &Lookup<'_>,
         path: Trail,
         head: usize,
         counting: Counting,
     ) -> Result<(), AllocError>
         ensures { OnOk result (found.new.items ≡ found.old.items
             ++ counted self.now.links.now counting
-            (seen self.now.cells.now followed path (lower_at (rows self.now.checked.now) head))
-            (seen self.now.cells.now followed path (upper_at (rows self.now.checked.now) head))) }
+            (seen lookup.now.cells.now lookup.now.followed path (lower_at (rows self.now.checked.now) head))
+            (seen lookup.now.cells.now lookup.now.followed path (upper_at (rows self.now.checked.now) head))) }
     {
         let rows = self.checked.table.rows.as_slice();
-        let lowers = seen(alloc, self.cells, followed, path, lower_at(rows, head))?;
-        let uppers = seen(alloc, self.cells, followed, path, upper_at(rows, head))?;
+        let lowers = lookup.seen(path, lower_at(rows, head))?;
+        let uppers = lookup.seen(path, upper_at(rows, head))?;
         add_counted(
             found,
             self.links,
@@ -99,20 +95,20 @@ impl Rules<'_> {
         &self,
         alloc: Global,
         found: &mut Vec<RowFact>,
-        path: Trail,
-        row: usize,
+        point: Point,
         value: RowValue,
     ) -> Result<(), AllocError>
         ensures { OnOk result (found.new.items ≡ found.old.items
-            ++ index_at self.now.checked.now self.now.links.now self.now.cells.now path row value) }
+            ++ index_at self.now.checked.now self.now.links.now self.now.cells.now point.path point.row value) }
     {
+        let Point { path, row } = point;
         match node_of(self.checked, row) {
             Node::Index { .. } => {
-                let followed = RowFact::Has { path, row, value };
+                let lookup = self.lookup(alloc, RowFact::Has { path, row, value });
                 let upper = awaited(self.checked, row);
                 let outside = self.cells.out_of(path, distance(self.checked, row, upper));
-                let uppers = seen(alloc, self.cells, followed, outside, upper)?;
-                let counting = self.counting_of(path, row);
+                let uppers = lookup.seen(outside, upper)?;
+                let counting = counting_of(self.checked, self.cells, path, row);
                 add_counted_on(found, self.links, counting, &[value], uppers.as_slice())
             }
             _ => Ok(()),
@@ -123,32 +119,37 @@ impl Rules<'_> {
     /// index at a row of this node.
     pub fn add_index_woken(
         &self,
-        alloc: Global,
         found: &mut Vec<RowFact>,
-        followed: RowFact,
+        lookup: &Lookup<'_>,
         wait: Wait,
         value: RowValue,
         node: Node,
     ) -> Result<(), AllocError>
         ensures { OnOk result (found.new.items ≡ found.old.items
-            ++ index_woken self.now.checked.now self.now.links.now self.now.cells.now followed wait value node) }
+            ++ index_woken self.now.checked.now self.now.links.now lookup.now.cells.now lookup.now.followed wait value
+            node) }
     {
         match node {
             Node::Index { .. } if wait.user == wait.row => {
-                let values = self.cells.values(alloc, followed, wait.path, wait.row)?;
-                let counting = self.counting_of(wait.path, wait.row);
+                let values = lookup.values(wait.path, wait.row)?;
+                let counting = counting_of(self.checked, lookup.cells, wait.path, wait.row);
                 add_counted_on(found, self.links, counting, values.as_slice(), &[value])
             }
             _ => Ok(()),
         }
     }
+}
 
-    /// Where the loop of the index at the row may go on behind the iteration that the path ends in.
-    fn counting_of(&self, path: Trail, row: usize) -> Option<Counting>
-        ensures { result ≡ counting_of self.now.checked.now self.now.cells.now path row }
-    {
-        counting_by(self.checked, row, self.iteration_of(path), next_of(path))
-    }
+/// Where the loop of the index at the row may go on behind the iteration that the path ends in.
+fn counting_of(checked: &Checked, cells: &Cells, path: Trail, row: usize) -> Option<Counting>
+    ensures { result ≡ counting_of checked.now cells.now path row }
+{
+    counting_by(
+        checked,
+        row,
+        iteration_of(checked, cells, path),
+        next_of(path),
+    )
 }
 
 /// Where it may go on behind this iteration, whose next one is at this path.

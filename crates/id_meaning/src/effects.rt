@@ -27,9 +27,9 @@ impl Rules<'_> {
             ++ effects self.now.checked.now self.now.links.now self.now.waits.now self.now.cells.now fact) }
     {
         match fact {
-            RowFact::On { path, row } => { self.add_from_turned(alloc, found, path, row) }
+            RowFact::On { path, row } => { self.add_from_turned(alloc, found, Point { path, row }) }
             RowFact::Has { path, row, value } => {
-                self.add_from_value(alloc, found, path, row, value)
+                self.add_from_value(alloc, found, Point { path, row }, value)
             }
             RowFact::Shape { name, .. } => self.add_from_shape(alloc, found, name),
             RowFact::Put {
@@ -43,7 +43,7 @@ impl Rules<'_> {
                 row,
                 name,
                 index,
-            } => add_asked(alloc, found, self.cells, path, row, name, index),
+            } => add_asked(alloc, found, self.cells, Point { path, row }, name, index),
         }
     }
 
@@ -52,18 +52,18 @@ impl Rules<'_> {
         &self,
         alloc: Global,
         found: &mut Vec<RowFact>,
-        path: Trail,
-        row: usize,
+        point: Point,
     ) -> Result<(), AllocError>
         ensures { OnOk result (found.new.items ≡ found.old.items
-            ++ turned self.now.checked.now self.now.links.now self.now.cells.now path row) }
+            ++ turned self.now.checked.now self.now.links.now self.now.cells.now point.path point.row) }
     {
-        let fact = RowFact::On { path, row };
+        let Point { path, row } = point;
+        let lookup = self.lookup(alloc, RowFact::On { path, row });
         add_ons(found, path, self.links.turns.of(row))?;
-        self.add_given(alloc, found, fact, path, row)?;
-        self.add_call(alloc, found, fact, path, row)?;
-        self.add_start(alloc, found, fact, path, row)?;
-        self.add_begin(alloc, found, fact, path, row)
+        self.add_given(found, &lookup, point)?;
+        self.add_call(found, &lookup, point)?;
+        self.add_start(found, &lookup, point)?;
+        self.add_begin(found, &lookup, point)
     }
 
     /// Adds the facts that follow from this, that the row Has the value at the path.
@@ -71,25 +71,19 @@ impl Rules<'_> {
         &self,
         alloc: Global,
         found: &mut Vec<RowFact>,
-        path: Trail,
-        row: usize,
+        point: Point,
         value: RowValue,
     ) -> Result<(), AllocError>
         ensures { OnOk result (found.new.items ≡ found.old.items
             ++ effects self.now.checked.now self.now.links.now self.now.waits.now self.now.cells.now
-            (Has path row value)) }
+            (Has point.path point.row value)) }
     {
-        self.add_gains(alloc, found, path, row, value, self.links.reads.of(row))?;
-        self.add_all_woken(
-            alloc,
-            found,
-            path,
-            row,
-            value,
-            self.waits.of(queue_of(path, row)),
-        )?;
-        self.add_exit(found, path, row, value)?;
-        self.add_index(alloc, found, path, row, value)
+        let rows = self.links.reads.of(point.row);
+        self.add_gains(alloc, found, point, value, rows)?;
+        let waits = self.waits.of(queue_of(point.path, point.row));
+        self.add_all_woken(alloc, found, point, value, waits)?;
+        self.add_exit(found, point, value)?;
+        self.add_index(alloc, found, point, value)
     }
 
     /// Adds the facts that come where the structure, which has new bounds, is a value.
@@ -112,16 +106,15 @@ impl Rules<'_> {
         &self,
         alloc: Global,
         found: &mut Vec<RowFact>,
-        path: Trail,
-        row: usize,
+        point: Point,
         value: RowValue,
         rows: &[usize],
     ) -> Result<(), AllocError>
         ensures { OnOk result (found.new.items ≡ found.old.items
-            ++ gains self.now.checked.now self.now.links.now self.now.cells.now path row value rows.now) }
+            ++ gains self.now.checked.now self.now.links.now self.now.cells.now point.path point.row value rows.now) }
     {
         for reader in rows {
-            self.add_gain(alloc, found, path, row, value, *reader)?;
+            self.add_gain(alloc, found, point, value, *reader)?;
         }
         Ok(())
     }
@@ -132,20 +125,21 @@ impl Rules<'_> {
         &self,
         alloc: Global,
         found: &mut Vec<RowFact>,
-        path: Trail,
-        row: usize,
+        point: Point,
         value: RowValue,
         reader: usize,
     ) -> Result<(), AllocError>
         ensures { OnOk result (found.new.items ≡ found.old.items
-            ++ gain self.now.checked.now self.now.links.now self.now.cells.now path row value reader) }
+            ++ gain self.now.checked.now self.now.links.now self.now.cells.now point.path point.row value reader) }
     {
-        let followed = RowFact::Has { path, row, value };
-        self.add_given(alloc, found, followed, path, reader)?;
+        let Point { path, row } = point;
+        let lookup = self.lookup(alloc, RowFact::Has { path, row, value });
+        let reading = Point { path, row: reader };
+        self.add_given(found, &lookup, reading)?;
         let node = node_of(self.checked, reader);
-        self.add_pass(found, path, row, value, node)?;
-        self.add_loop(found, path, row, value, reader)?;
-        self.add_begin(alloc, found, followed, path, reader)
+        self.add_pass(found, point, value, node)?;
+        self.add_loop(found, point, value, reader)?;
+        self.add_begin(found, &lookup, reading)
     }
 
     /// Adds the facts that come where the structure, which has new bounds, is a value.
@@ -160,14 +154,8 @@ impl Rules<'_> {
             ++ reached self.now.checked.now self.now.links.now self.now.cells.now name points.now) }
     {
         for point in points {
-            self.add_gains(
-                alloc,
-                found,
-                point.path,
-                point.row,
-                RowValue::Name(name),
-                self.links.reads.of(point.row),
-            )?;
+            let rows = self.links.reads.of(point.row);
+            self.add_gains(alloc, found, *point, RowValue::Name(name), rows)?;
         }
         Ok(())
     }
@@ -177,16 +165,16 @@ impl Rules<'_> {
         &self,
         alloc: Global,
         found: &mut Vec<RowFact>,
-        path: Trail,
-        row: usize,
+        point: Point,
         value: RowValue,
         waits: &[Wait],
     ) -> Result<(), AllocError>
         ensures { OnOk result (found.new.items ≡ found.old.items
-            ++ all_woken self.now.checked.now self.now.links.now self.now.cells.now path row value waits.now) }
+            ++ all_woken self.now.checked.now self.now.links.now self.now.cells.now point.path point.row value
+            waits.now) }
     {
         for wait in waits {
-            self.add_woken(alloc, found, path, row, value, *wait)?;
+            self.add_woken(alloc, found, point, value, *wait)?;
         }
         Ok(())
     }
@@ -196,23 +184,16 @@ impl Rules<'_> {
     fn add_exit(
         &self,
         found: &mut Vec<RowFact>,
-        path: Trail,
-        row: usize,
+        point: Point,
         value: RowValue,
     ) -> Result<(), AllocError>
         ensures { OnOk result (found.new.items ≡ found.old.items
-            ++ exit_at self.now.checked.now self.now.cells.now path row value) }
+            ++ exit_at self.now.checked.now self.now.cells.now point.path point.row value) }
     {
-        match path {
+        match point.path {
             Trail::Below { spot, number } => {
-                add_exit_by(
-                    found,
-                    self.checked,
-                    number,
-                    row,
-                    value,
-                    self.cells.fact(spot),
-                )
+                let began = self.cells.fact(spot);
+                add_exit_by(found, self.checked, number, point.row, value, began)
             }
             Trail::Outermost => Ok(()),
         }

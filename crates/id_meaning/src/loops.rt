@@ -11,10 +11,10 @@ ghost use Rattle.id_source.specs.Links.{test_of_loop};
 
 use crate::effects::is_row;
 use crate::given::add_seen;
-use crate::rules::Rules;
+use crate::rules::{Lookup, Rules};
 use id_check::Checked;
 use id_facts::{
-    Cells, RowFact, RowValue, Trail, Wait, add_has, add_on, add_ons, next_of, same_trail,
+    Cells, Point, RowFact, RowValue, Trail, Wait, add_has, add_on, add_ons, next_of, same_trail,
 };
 use id_source::{Links, awaited, binder_of, block_of, distance, node_of, test_of_loop};
 use id_table::Node;
@@ -30,83 +30,78 @@ pub struct Iteration {
 }
 
 impl Rules<'_> {
-    /// Adds the facts that come by the loop at the row at the path, where it is On and this fact is followed.
+    /// Adds the facts that come by the loop at the row at the path, where it is On.
     pub fn add_start(
         &self,
-        alloc: Global,
         found: &mut Vec<RowFact>,
-        followed: RowFact,
-        path: Trail,
-        row: usize,
+        lookup: &Lookup<'_>,
+        point: Point,
     ) -> Result<(), AllocError>
         ensures { OnOk result (found.new.items ≡ found.old.items
-            ++ start_at self.now.checked.now self.now.links.now self.now.cells.now followed path row) }
+            ++ start_at self.now.checked.now self.now.links.now lookup.now.cells.now lookup.now.followed point.path
+            point.row) }
     {
-        match (self.cells.find(path, row), node_of(self.checked, row)) {
+        let spot = lookup.cells.find(point.path, point.row);
+        match (spot, node_of(self.checked, point.row)) {
             (Some(spot), Node::Loop { head, switches, .. }) => {
                 let first = Trail::Below { spot, number: 0 };
                 let test = test_of(self.checked, node_of(self.checked, switches as usize));
                 add_on(found, first, test)?;
-                self.add_firsts(
-                    alloc,
-                    found,
-                    followed,
-                    path,
-                    row,
-                    first,
-                    head as usize,
-                    self.links.args.of(head as usize),
-                )
+                let nexts = self.links.args.of(head as usize);
+                let head = Point {
+                    path: first,
+                    row: head as usize,
+                };
+                self.add_firsts(found, lookup, point, head, nexts)
             }
             _ => Ok(()),
         }
     }
 
-    /// Adds the facts that variables of the loop with this head Have their first values, whose `next`s are at these
-    /// rows.
+    /// Adds the facts that variables of the loop with this head, in its first iteration, Have their first values, whose
+    /// `next`s are at these rows.
     fn add_firsts(
         &self,
-        alloc: Global,
         found: &mut Vec<RowFact>,
-        followed: RowFact,
-        path: Trail,
-        row: usize,
-        first: Trail,
-        head: usize,
+        lookup: &Lookup<'_>,
+        point: Point,
+        head: Point,
         nexts: &[usize],
     ) -> Result<(), AllocError>
         ensures { OnOk result (found.new.items ≡ found.old.items
-            ++ firsts self.now.checked.now self.now.cells.now followed path row first head nexts.now) }
+            ++ firsts self.now.checked.now lookup.now.cells.now lookup.now.followed point.path point.row head.path
+            head.row nexts.now) }
     {
         for next in nexts {
-            self.add_first(alloc, found, followed, path, row, first, head, *next)?;
+            self.add_first(found, lookup, point, head, *next)?;
         }
         Ok(())
     }
 
-    /// Adds the facts that the variable of the loop with this head Has its first values, whose `next` is at this row.
+    /// Adds the facts that the variable of the loop with this head, in its first iteration, Has its first values, whose
+    /// `next` is at this row.
     fn add_first(
         &self,
-        alloc: Global,
         found: &mut Vec<RowFact>,
-        followed: RowFact,
-        path: Trail,
-        row: usize,
-        first: Trail,
-        head: usize,
+        lookup: &Lookup<'_>,
+        point: Point,
+        head: Point,
         next: usize,
     ) -> Result<(), AllocError>
         ensures { OnOk result (found.new.items ≡ found.old.items
-            ++ first_of self.now.checked.now self.now.cells.now followed path row first head next
-            (at (rows self.now.checked.now) next).node) }
+            ++ first_of self.now.checked.now lookup.now.cells.now lookup.now.followed point.path point.row head.path
+            head.row next (at (rows self.now.checked.now) next).node) }
     {
         match node_of(self.checked, next) {
-            Node::Next { outer, .. } if block_of(self.checked, next) == head => {
+            Node::Next { outer, .. } if block_of(self.checked, next) == head.row => {
                 let binder = binder_of(self.checked, outer as usize);
-                let outside = self.cells.out_of(path, distance(self.checked, row, binder));
-                add_seen(
-                    alloc, found, self.cells, followed, first, next, outside, binder,
-                )
+                let away = distance(self.checked, point.row, binder);
+                let outside = lookup.cells.out_of(point.path, away);
+                let variable = Point {
+                    path: head.path,
+                    row: next,
+                };
+                add_seen(found, lookup, variable, outside, binder)
             }
             _ => Ok(()),
         }
@@ -117,52 +112,35 @@ impl Rules<'_> {
         &self,
         alloc: Global,
         found: &mut Vec<RowFact>,
-        path: Trail,
-        row: usize,
+        point: Point,
         value: RowValue,
         wait: Wait,
     ) -> Result<(), AllocError>
         ensures { OnOk result (found.new.items ≡ found.old.items
-            ++ woken self.now.checked.now self.now.links.now self.now.cells.now path row value wait) }
+            ++ woken self.now.checked.now self.now.links.now self.now.cells.now point.path point.row value wait) }
     {
-        if self.is_awaited(path, row, wait) {
+        if self.is_awaited(point, wait) {
+            let spot = self.cells.find(wait.path, wait.row);
             let node = node_of(self.checked, wait.row);
-            add_woken_by(
-                found,
-                self.checked,
-                wait,
-                value,
-                self.cells.find(wait.path, wait.row),
-                node,
-                node_of(self.checked, wait.user),
-            )?;
-            let followed = RowFact::Has { path, row, value };
-            self.add_index_woken(alloc, found, followed, wait, value, node)
+            add_woken_by(found, self.checked, wait, value, spot, node)?;
+            let Point { path, row } = point;
+            let lookup = self.lookup(alloc, RowFact::Has { path, row, value });
+            self.add_index_woken(found, &lookup, wait, value, node)
         } else {
             Ok(())
         }
     }
 
     /// Whether this waits for the row at the path.
-    fn is_awaited(&self, path: Trail, row: usize, wait: Wait) -> bool
-        ensures { result ≡ is_awaited self.now.checked.now self.now.cells.now path row wait }
+    fn is_awaited(&self, point: Point, wait: Wait) -> bool
+        ensures { result ≡ is_awaited self.now.checked.now self.now.cells.now point.path point.row wait }
     {
         match awaited(self.checked, wait.user) {
             Some(there) => {
                 let far = distance(self.checked, wait.row, Some(there));
-                there == row && same_trail(self.cells.out_of(wait.path, far), path)
+                there == point.row && same_trail(self.cells.out_of(wait.path, far), point.path)
             }
             None => false,
-        }
-    }
-
-    /// The iteration that the path ends in, if it ends in one.
-    pub fn iteration_of(&self, path: Trail) -> Option<Iteration>
-        ensures { result ≡ iteration_of self.now.checked.now self.now.cells.now path }
-    {
-        match path {
-            Trail::Below { spot, .. } => iteration_in(self.checked, self.cells.fact(spot)),
-            Trail::Outermost => None,
         }
     }
 
@@ -171,24 +149,27 @@ impl Rules<'_> {
     pub fn add_loop(
         &self,
         found: &mut Vec<RowFact>,
-        path: Trail,
-        row: usize,
+        point: Point,
         value: RowValue,
         reader: usize,
     ) -> Result<(), AllocError>
         ensures { OnOk result (found.new.items ≡ found.old.items
-            ++ loop_by self.now.checked.now self.now.links.now self.now.cells.now path row value reader
+            ++ loop_by self.now.checked.now self.now.links.now self.now.cells.now point.path point.row value reader
             (at (rows self.now.checked.now) reader).node) }
     {
+        let reading = Point {
+            path: point.path,
+            row: reader,
+        };
         match node_of(self.checked, reader) {
             Node::Switches { test }
-                if is_row(test_of(self.checked, Node::Switches { test }), row) => {
-                let iteration = self.iteration_of(path);
-                add_switches(found, self.links, path, iteration, reader, test, value)
+                if is_row(test_of(self.checked, Node::Switches { test }), point.row) => {
+                let iteration = iteration_of(self.checked, self.cells, point.path);
+                add_switches(found, self.links, reading, iteration, test, value)
             }
-            Node::Next { value: read, .. } if read as usize == row => {
-                let iteration = self.iteration_of(path);
-                add_next(found, self.checked, path, iteration, reader, value)
+            Node::Next { value: read, .. } if read as usize == point.row => {
+                let iteration = iteration_of(self.checked, self.cells, point.path);
+                add_next(found, self.checked, reading, iteration, value)
             }
             _ => Ok(()),
         }
@@ -211,12 +192,11 @@ fn add_woken_by(
     value: RowValue,
     spot: Option<usize>,
     node: Node,
-    user: Node,
 ) -> Result<(), AllocError>
     ensures { OnOk result (found.new.items ≡ found.old.items
-        ++ woken_by checked.now wait value spot node user) }
+        ++ woken_by checked.now wait value spot node (at (rows checked.now) wait.user).node) }
 {
-    match (spot, node, user) {
+    match (spot, node, node_of(checked, wait.user)) {
         (Some(_), Node::Name { .. }, _) if wait.user == wait.row => {
             add_has(found, wait.path, wait.row, value)
         }
@@ -226,6 +206,16 @@ fn add_woken_by(
             add_has(found, first, wait.user, value)
         }
         _ => Ok(()),
+    }
+}
+
+/// The iteration that the path ends in, if it ends in one.
+pub fn iteration_of(checked: &Checked, cells: &Cells, path: Trail) -> Option<Iteration>
+    ensures { result ≡ iteration_of checked.now cells.now path }
+{
+    match path {
+        Trail::Below { spot, .. } => iteration_in(checked, cells.fact(spot)),
+        Trail::Outermost => None,
     }
 }
 
@@ -261,18 +251,17 @@ fn iteration_by(node: Node) -> Option<Iteration>
 fn add_switches(
     found: &mut Vec<RowFact>,
     links: &Links,
-    path: Trail,
+    point: Point,
     iteration: Option<Iteration>,
-    row: usize,
     test: usize,
     value: RowValue,
 ) -> Result<(), AllocError>
     ensures { OnOk result (found.new.items ≡ found.old.items
-        ++ switches_by links.now path iteration row test value) }
+        ++ switches_by links.now point.path iteration point.row test value) }
 {
     match iteration {
-        Some(iteration) if row == iteration.switches => {
-            add_turn(found, links, path, iteration, test, value)
+        Some(iteration) if point.row == iteration.switches => {
+            add_turn(found, links, point.path, iteration, test, value)
         }
         _ => Ok(()),
     }
@@ -310,17 +299,16 @@ fn add_turn(
 fn add_next(
     found: &mut Vec<RowFact>,
     checked: &Checked,
-    path: Trail,
+    point: Point,
     iteration: Option<Iteration>,
-    row: usize,
     value: RowValue,
 ) -> Result<(), AllocError>
     ensures { OnOk result (found.new.items ≡ found.old.items
-        ++ next_by checked.now path iteration row value) }
+        ++ next_by checked.now point.path iteration point.row value) }
 {
     match iteration {
-        Some(iteration) if block_of(checked, row) == iteration.head => {
-            add_has_at(found, next_of(path), row, value)
+        Some(iteration) if block_of(checked, point.row) == iteration.head => {
+            add_has_at(found, next_of(point.path), point.row, value)
         }
         _ => Ok(()),
     }

@@ -7,45 +7,43 @@ ghost use Rattle.id_facts.specs.Firsts.{haves};
 ghost use Rattle.id_meaning.specs.Given.{is_in_some, made, made_by, put_in, store_at};
 ghost use Rattle.id_meaning.specs.Given.{store_by, stored, stored_by, stores};
 
-use id_facts::{Bounds, Cells, Point, RowFact, RowValue, Trail, add_has, add_values};
+use crate::rules::Lookup;
+use id_facts::{Bounds, Cells, Point, RowFact, RowValue, add_has, add_values};
 use id_table::Node;
 use id_value::{bounds_are_good, is_inside};
 use std::alloc::{AllocError, Global};
 
 /// Adds what comes of the bounds at these rows at an `array`, which is On by the fact of number `spot`.
 pub fn add_array_at(
-    alloc: Global,
     found: &mut Vec<RowFact>,
-    cells: &Cells,
-    followed: RowFact,
-    path: Trail,
-    row: usize,
+    lookup: &Lookup<'_>,
+    point: Point,
     spot: usize,
     low: usize,
     high: usize,
 ) -> Result<(), AllocError>
     ensures { OnOk result (found.new.items ≡ found.old.items
-        ++ arrays path row spot (values cells.now followed path low) (values cells.now followed path high)) }
+        ++ arrays point.path point.row spot (values lookup.now.cells.now lookup.now.followed point.path low)
+        (values lookup.now.cells.now lookup.now.followed point.path high)) }
 {
-    let lows = cells.values(alloc, followed, path, low)?;
-    let highs = cells.values(alloc, followed, path, high)?;
-    add_array(found, path, row, spot, lows.as_slice(), highs.as_slice())
+    let lows = lookup.values(point.path, low)?;
+    let highs = lookup.values(point.path, high)?;
+    add_array(found, point, spot, lows.as_slice(), highs.as_slice())
 }
 
 /// Adds the structures that come of these bounds: the `array` at the path and row is On by the fact of number `spot`.
 fn add_array(
     found: &mut Vec<RowFact>,
-    path: Trail,
-    row: usize,
+    point: Point,
     spot: usize,
     lows: &[RowValue],
     highs: &[RowValue],
 ) -> Result<(), AllocError>
     ensures { OnOk result (found.new.items ≡ found.old.items
-        ++ arrays path row spot lows.now highs.now) }
+        ++ arrays point.path point.row spot lows.now highs.now) }
 {
     for low in lows {
-        add_array_by(found, path, row, spot, *low, highs)?;
+        add_array_by(found, point, spot, *low, highs)?;
     }
     Ok(())
 }
@@ -53,17 +51,16 @@ fn add_array(
 /// Adds the structures that come of this lower bound with these upper ones.
 fn add_array_by(
     found: &mut Vec<RowFact>,
-    path: Trail,
-    row: usize,
+    point: Point,
     spot: usize,
     low: RowValue,
     highs: &[RowValue],
 ) -> Result<(), AllocError>
     ensures { OnOk result (found.new.items ≡ found.old.items
-        ++ array_by path row spot low highs.now) }
+        ++ array_by point.path point.row spot low highs.now) }
 {
     match low {
-        RowValue::Int(low) => add_made(found, path, row, spot, low, highs),
+        RowValue::Int(low) => add_made(found, point, spot, low, highs),
         _ => Ok(()),
     }
 }
@@ -71,17 +68,16 @@ fn add_array_by(
 /// Adds the structures that come of this lower bound with these upper ones.
 fn add_made(
     found: &mut Vec<RowFact>,
-    path: Trail,
-    row: usize,
+    point: Point,
     spot: usize,
     low: i64,
     highs: &[RowValue],
 ) -> Result<(), AllocError>
     ensures { OnOk result (found.new.items ≡ found.old.items
-        ++ made path row spot low highs.now) }
+        ++ made point.path point.row spot low highs.now) }
 {
     for high in highs {
-        add_made_by(found, path, row, spot, low, *high)?;
+        add_made_by(found, point, spot, low, *high)?;
     }
     Ok(())
 }
@@ -89,14 +85,13 @@ fn add_made(
 /// Adds the structure that comes of these bounds, if they are good.
 fn add_made_by(
     found: &mut Vec<RowFact>,
-    path: Trail,
-    row: usize,
+    point: Point,
     spot: usize,
     low: i64,
     high: RowValue,
 ) -> Result<(), AllocError>
     ensures { OnOk result (found.new.items ≡ found.old.items
-        ++ made_by path row spot low high) }
+        ++ made_by point.path point.row spot low high) }
 {
     match high {
         RowValue::Int(high) if bounds_are_good(low, high) => {
@@ -105,7 +100,7 @@ fn add_made_by(
                 low,
                 high,
             })?;
-            add_has(found, path, row, RowValue::Name(spot))
+            add_has(found, point.path, point.row, RowValue::Name(spot))
         }
         _ => Ok(()),
     }
@@ -113,67 +108,54 @@ fn add_made_by(
 
 /// Adds what comes of the target and the index at these rows at a fetch.
 pub fn add_fetch_at(
-    alloc: Global,
     found: &mut Vec<RowFact>,
-    cells: &Cells,
-    followed: RowFact,
-    path: Trail,
-    row: usize,
+    lookup: &Lookup<'_>,
+    point: Point,
     target: usize,
     index: usize,
 ) -> Result<(), AllocError>
     ensures { OnOk result (found.new.items ≡ found.old.items
-        ++ fetches cells.now path row (values cells.now followed path target) (values cells.now followed path index)) }
+        ++ fetches lookup.now.cells.now point.path point.row
+        (values lookup.now.cells.now lookup.now.followed point.path target)
+        (values lookup.now.cells.now lookup.now.followed point.path index)) }
 {
-    let targets = cells.values(alloc, followed, path, target)?;
-    let indices = cells.values(alloc, followed, path, index)?;
-    add_fetch(
-        alloc,
-        found,
-        cells,
-        path,
-        row,
-        targets.as_slice(),
-        indices.as_slice(),
-    )
+    let targets = lookup.values(point.path, target)?;
+    let indices = lookup.values(point.path, index)?;
+    add_fetch(found, lookup, point, targets.as_slice(), indices.as_slice())
 }
 
 /// Adds that the fetch at the path and row asks for the cells of these structures with these indices.
 fn add_fetch(
-    alloc: Global,
     found: &mut Vec<RowFact>,
-    cells: &Cells,
-    path: Trail,
-    row: usize,
+    lookup: &Lookup<'_>,
+    point: Point,
     targets: &[RowValue],
     indices: &[RowValue],
 ) -> Result<(), AllocError>
     ensures { OnOk result (found.new.items ≡ found.old.items
-        ++ fetches cells.now path row targets.now indices.now) }
+        ++ fetches lookup.now.cells.now point.path point.row targets.now indices.now) }
 {
     for target in targets {
-        add_fetch_by(alloc, found, cells, path, row, *target, indices)?;
+        add_fetch_by(found, lookup, point, *target, indices)?;
     }
     Ok(())
 }
 
 /// Adds that the fetch asks for the cells of the structure that the value is with these indices.
 fn add_fetch_by(
-    alloc: Global,
     found: &mut Vec<RowFact>,
-    cells: &Cells,
-    path: Trail,
-    row: usize,
+    lookup: &Lookup<'_>,
+    point: Point,
     target: RowValue,
     indices: &[RowValue],
 ) -> Result<(), AllocError>
     ensures { OnOk result (found.new.items ≡ found.old.items
-        ++ fetch_by cells.now path row target indices.now) }
+        ++ fetch_by lookup.now.cells.now point.path point.row target indices.now) }
 {
     match target {
         RowValue::Name(name) => {
-            let shapes = cells.shapes(alloc, name)?;
-            add_fetched(found, path, row, name, shapes.as_slice(), indices)
+            let shapes = lookup.cells.shapes(lookup.alloc, name)?;
+            add_fetched(found, point, name, shapes.as_slice(), indices)
         }
         _ => Ok(()),
     }
@@ -182,17 +164,16 @@ fn add_fetch_by(
 /// Adds that the fetch asks for the cells of this structure with these indices.
 fn add_fetched(
     found: &mut Vec<RowFact>,
-    path: Trail,
-    row: usize,
+    point: Point,
     name: usize,
     shapes: &[Bounds],
     indices: &[RowValue],
 ) -> Result<(), AllocError>
     ensures { OnOk result (found.new.items ≡ found.old.items
-        ++ asked path row name shapes.now indices.now) }
+        ++ asked point.path point.row name shapes.now indices.now) }
 {
     for index in indices {
-        add_fetched_by(found, path, row, name, shapes, *index)?;
+        add_fetched_by(found, point, name, shapes, *index)?;
     }
     Ok(())
 }
@@ -200,20 +181,19 @@ fn add_fetched(
 /// Adds that the fetch asks for the cell of this structure with this index, if there is one.
 fn add_fetched_by(
     found: &mut Vec<RowFact>,
-    path: Trail,
-    row: usize,
+    point: Point,
     name: usize,
     shapes: &[Bounds],
     index: RowValue,
 ) -> Result<(), AllocError>
     ensures { OnOk result (found.new.items ≡ found.old.items
-        ++ asked_by path row name shapes.now index) }
+        ++ asked_by point.path point.row name shapes.now index) }
 {
     match index {
         RowValue::Int(index) if is_in_some(shapes, index) => {
             found.push(RowFact::Ask {
-                path,
-                row,
+                path: point.path,
+                row: point.row,
                 name,
                 index,
             })?;
@@ -237,29 +217,24 @@ fn is_in_some(shapes: &[Bounds], index: i64) -> bool
 
 /// Adds what the store at the path and row puts into cells, whose address has this node.
 pub fn add_store(
-    alloc: Global,
     found: &mut Vec<RowFact>,
-    cells: &Cells,
-    followed: RowFact,
-    path: Trail,
-    row: usize,
+    lookup: &Lookup<'_>,
+    point: Point,
     address: Node,
     value: usize,
 ) -> Result<(), AllocError>
     ensures { OnOk result (found.new.items ≡ found.old.items
-        ++ store_at cells.now followed path row address value) }
+        ++ store_at lookup.now.cells.now lookup.now.followed point.path point.row address value) }
 {
     match address {
         Node::Address { target, index } => {
-            let targets = cells.values(alloc, followed, path, target)?;
-            let indices = cells.values(alloc, followed, path, index)?;
-            let values = cells.values(alloc, followed, path, value)?;
+            let targets = lookup.values(point.path, target)?;
+            let indices = lookup.values(point.path, index)?;
+            let values = lookup.values(point.path, value)?;
             add_stored(
-                alloc,
                 found,
-                cells,
-                path,
-                row,
+                lookup,
+                point,
                 targets.as_slice(),
                 indices.as_slice(),
                 values.as_slice(),
@@ -271,42 +246,38 @@ pub fn add_store(
 
 /// Adds that the store puts these values into the cells of these structures with these indices.
 fn add_stored(
-    alloc: Global,
     found: &mut Vec<RowFact>,
-    cells: &Cells,
-    path: Trail,
-    row: usize,
+    lookup: &Lookup<'_>,
+    point: Point,
     targets: &[RowValue],
     indices: &[RowValue],
     values: &[RowValue],
 ) -> Result<(), AllocError>
     ensures { OnOk result (found.new.items ≡ found.old.items
-        ++ stores cells.now path row targets.now indices.now values.now) }
+        ++ stores lookup.now.cells.now point.path point.row targets.now indices.now values.now) }
 {
     for target in targets {
-        add_store_by(alloc, found, cells, path, row, *target, indices, values)?;
+        add_store_by(found, lookup, point, *target, indices, values)?;
     }
     Ok(())
 }
 
 /// Adds that the store puts these values into the cells of the structure that the value is with these indices.
 fn add_store_by(
-    alloc: Global,
     found: &mut Vec<RowFact>,
-    cells: &Cells,
-    path: Trail,
-    row: usize,
+    lookup: &Lookup<'_>,
+    point: Point,
     target: RowValue,
     indices: &[RowValue],
     values: &[RowValue],
 ) -> Result<(), AllocError>
     ensures { OnOk result (found.new.items ≡ found.old.items
-        ++ store_by cells.now path row target indices.now values.now) }
+        ++ store_by lookup.now.cells.now point.path point.row target indices.now values.now) }
 {
     match target {
         RowValue::Name(name) => {
-            let shapes = cells.shapes(alloc, name)?;
-            add_stored_in(found, path, row, name, shapes.as_slice(), indices, values)
+            let shapes = lookup.cells.shapes(lookup.alloc, name)?;
+            add_stored_in(found, point, name, shapes.as_slice(), indices, values)
         }
         _ => Ok(()),
     }
@@ -315,18 +286,17 @@ fn add_store_by(
 /// Adds that the store puts these values into the cells of this structure with these indices.
 fn add_stored_in(
     found: &mut Vec<RowFact>,
-    path: Trail,
-    row: usize,
+    point: Point,
     name: usize,
     shapes: &[Bounds],
     indices: &[RowValue],
     values: &[RowValue],
 ) -> Result<(), AllocError>
     ensures { OnOk result (found.new.items ≡ found.old.items
-        ++ stored path row name shapes.now indices.now values.now) }
+        ++ stored point.path point.row name shapes.now indices.now values.now) }
 {
     for index in indices {
-        add_stored_by(found, path, row, name, shapes, *index, values)?;
+        add_stored_by(found, point, name, shapes, *index, values)?;
     }
     Ok(())
 }
@@ -334,19 +304,18 @@ fn add_stored_in(
 /// Adds that the store puts these values into the cell of this structure with this index, if there is one.
 fn add_stored_by(
     found: &mut Vec<RowFact>,
-    path: Trail,
-    row: usize,
+    point: Point,
     name: usize,
     shapes: &[Bounds],
     index: RowValue,
     values: &[RowValue],
 ) -> Result<(), AllocError>
     ensures { OnOk result (found.new.items ≡ found.old.items
-        ++ stored_by path row name shapes.now values.now index) }
+        ++ stored_by point.path point.row name shapes.now values.now index) }
 {
     match index {
         RowValue::Int(index) if is_in_some(shapes, index) => {
-            add_puts(found, path, row, name, index, values)
+            add_puts(found, point, name, index, values)
         }
         _ => Ok(()),
     }
@@ -355,19 +324,18 @@ fn add_stored_by(
 /// Adds that the store puts these values into the cell.
 fn add_puts(
     found: &mut Vec<RowFact>,
-    path: Trail,
-    row: usize,
+    point: Point,
     name: usize,
     index: i64,
     values: &[RowValue],
 ) -> Result<(), AllocError>
     ensures { OnOk result (found.new.items ≡ found.old.items
-        ++ put_in path row name index values.now) }
+        ++ put_in point.path point.row name index values.now) }
 {
     for value in values {
         found.push(RowFact::Put {
-            path,
-            row,
+            path: point.path,
+            row: point.row,
             name,
             index,
             value: *value,
@@ -408,14 +376,13 @@ pub fn add_asked(
     alloc: Global,
     found: &mut Vec<RowFact>,
     cells: &Cells,
-    path: Trail,
-    row: usize,
+    point: Point,
     name: usize,
     index: i64,
 ) -> Result<(), AllocError>
     ensures { OnOk result (found.new.items ≡ found.old.items
-        ++ haves path row (puts cells.now name index)) }
+        ++ haves point.path point.row (puts cells.now name index)) }
 {
     let values = cells.puts(alloc, name, index)?;
-    add_values(found, path, row, values.as_slice())
+    add_values(found, point.path, point.row, values.as_slice())
 }

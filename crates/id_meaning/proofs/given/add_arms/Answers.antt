@@ -9,8 +9,11 @@ loop-test-init c = refl
 
 pub loop-test-preserved : goal.loop-test-preserved
 loop-test-preserved c =
-    gathered-more (arms c.args.cells.now c.args.followed c.args.path c.args.row c.args.then c.args.otherwise)
-    (arm_by c.args.cells.now c.args.followed c.args.path c.args.row c.args.then c.args.otherwise) (λ _ _. refl)
+    gathered-more
+    (arms c.args.lookup.now.cells.now c.args.lookup.now.followed c.args.point.path c.args.point.row c.args.then
+    c.args.otherwise)
+    (arm_by c.args.lookup.now.cells.now c.args.lookup.now.followed c.args.point.path c.args.point.row c.args.then
+    c.args.otherwise) (λ _ _. refl)
     c.args.tests.now c.loop-test.test-index
     _ _ _ _ c.loop-test-test.true c.in_ok-add_arm.ensures c.loop-test.invariant
 
@@ -19,6 +22,8 @@ returns-in_err-add_arm c = on_ok _ c.from_residual.result c.from_residual.ensure
 
 pub returns : goal.returns
 returns c =
-    gathered-all (arms c.args.cells.now c.args.followed c.args.path c.args.row c.args.then c.args.otherwise) refl
+    gathered-all
+    (arms c.args.lookup.now.cells.now c.args.lookup.now.followed c.args.point.path c.args.point.row c.args.then
+    c.args.otherwise) refl
     c.args.tests.now c.loop-test.test-index
     _ _ c.loop-test-test.false c.loop-test.invariant

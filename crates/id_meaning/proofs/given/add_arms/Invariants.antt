@@ -5,6 +5,7 @@ use Rattle.id_meaning.proofs.given.add_arms.Given as goal
 
 abbrev pub invariant-loop-test : goal.invariant-loop-test
 invariant-loop-test l =
-    l.found.items ++ arms l.cells l.followed l.path l.row l.then l.otherwise (drop l.test-index l.tests)
+    l.found.items ++ arms l.lookup.cells.now l.lookup.followed l.point.path l.point.row l.then l.otherwise
+    (drop l.test-index l.tests)
     ≡ l.initial.found.items ++
-    arms l.cells l.followed l.path l.row l.then l.otherwise l.tests
+    arms l.lookup.cells.now l.lookup.followed l.point.path l.point.row l.then l.otherwise l.tests

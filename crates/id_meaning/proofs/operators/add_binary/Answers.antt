@@ -9,8 +9,9 @@ loop-left-init c = refl
 
 pub loop-left-preserved : goal.loop-left-preserved
 loop-left-preserved c =
-    gathered-more (λ vs. binaries c.args.path c.args.row c.args.op vs c.args.rights.now)
-    (λ v. rights_of c.args.path c.args.row c.args.op (constant_of v) c.args.rights.now) (λ _ _. refl) c.args.lefts.now
+    gathered-more (λ vs. binaries c.args.point.path c.args.point.row c.args.op vs c.args.rights.now)
+    (λ v. rights_of c.args.point.path c.args.point.row c.args.op (constant_of v) c.args.rights.now) (λ _ _. refl)
+    c.args.lefts.now
     c.loop-left.left-index _ _ _ _
     c.loop-left-test.true (rw c.constant_of.ensures at c.in_ok-add_rights_of.ensures) c.loop-left.invariant
 
@@ -19,6 +20,7 @@ returns-in_err-add_rights_of c = on_ok _ c.from_residual.result c.from_residual.
 
 pub returns : goal.returns
 returns c =
-    gathered-all (λ vs. binaries c.args.path c.args.row c.args.op vs c.args.rights.now) refl c.args.lefts.now
+    gathered-all (λ vs. binaries c.args.point.path c.args.point.row c.args.op vs c.args.rights.now) refl
+    c.args.lefts.now
     c.loop-left.left-index _ _
     c.loop-left-test.false c.loop-left.invariant

@@ -5,5 +5,5 @@ use Rattle.id_meaning.proofs.operators.add_binary.Given as goal
 
 abbrev pub invariant-loop-left : goal.invariant-loop-left
 invariant-loop-left l =
-    l.found.items ++ binaries l.path l.row l.op (drop l.left-index l.lefts) l.rights ≡ l.initial.found.items
-    ++ binaries l.path l.row l.op l.lefts l.rights
+    l.found.items ++ binaries l.point.path l.point.row l.op (drop l.left-index l.lefts) l.rights ≡ l.initial.found.items
+    ++ binaries l.point.path l.point.row l.op l.lefts l.rights

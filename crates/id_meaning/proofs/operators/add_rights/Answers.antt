@@ -9,8 +9,8 @@ loop-right-init c = refl
 
 pub loop-right-preserved : goal.loop-right-preserved
 loop-right-preserved c =
-    gathered-more (all_rights c.args.path c.args.row c.args.op c.args.left)
-    (λ v. binary_by c.args.path c.args.row c.args.op c.args.left (constant_of v))
+    gathered-more (all_rights c.args.point.path c.args.point.row c.args.op c.args.left)
+    (λ v. binary_by c.args.point.path c.args.point.row c.args.op c.args.left (constant_of v))
     (λ _ _. refl) c.args.rights.now c.loop-right.right-index _ _ _ _ c.loop-right-test.true
     (rw c.constant_of.ensures at c.in_ok-add_binary_by.ensures)
     c.loop-right.invariant
@@ -20,6 +20,6 @@ returns-in_err-add_binary_by c = on_ok _ c.from_residual.result c.from_residual.
 
 pub returns : goal.returns
 returns c =
-    gathered-all (all_rights c.args.path c.args.row c.args.op c.args.left) refl c.args.rights.now
+    gathered-all (all_rights c.args.point.path c.args.point.row c.args.op c.args.left) refl c.args.rights.now
     c.loop-right.right-index _ _ c.loop-right-test.false
     c.loop-right.invariant

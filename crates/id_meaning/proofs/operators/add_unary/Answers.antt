@@ -9,8 +9,8 @@ loop-operand-init c = refl
 
 pub loop-operand-preserved : goal.loop-operand-preserved
 loop-operand-preserved c =
-    gathered-more (unaries c.args.path c.args.row c.args.op)
-    (λ v. unary_by c.args.path c.args.row c.args.op (constant_of v)) (λ _ _. refl)
+    gathered-more (unaries c.args.point.path c.args.point.row c.args.op)
+    (λ v. unary_by c.args.point.path c.args.point.row c.args.op (constant_of v)) (λ _ _. refl)
     c.args.operands.now c.loop-operand.operand-index _ _ _ _ c.loop-operand-test.true
     (rw c.constant_of.ensures at c.in_ok-add_unary_by.ensures)
     c.loop-operand.invariant
@@ -20,6 +20,7 @@ returns-in_err-add_unary_by c = on_ok _ c.from_residual.result c.from_residual.e
 
 pub returns : goal.returns
 returns c =
-    gathered-all (unaries c.args.path c.args.row c.args.op) refl c.args.operands.now c.loop-operand.operand-index _ _
+    gathered-all (unaries c.args.point.path c.args.point.row c.args.op) refl c.args.operands.now
+    c.loop-operand.operand-index _ _
     c.loop-operand-test.false
     c.loop-operand.invariant

@@ -9,8 +9,8 @@ loop-low-init c = refl
 
 pub loop-low-preserved : goal.loop-low-preserved
 loop-low-preserved c =
-    gathered-more (λ vs. arrays c.args.path c.args.row c.args.spot vs c.args.highs.now)
-    (λ v. array_by c.args.path c.args.row c.args.spot v c.args.highs.now) (λ _ _. refl) c.args.lows.now
+    gathered-more (λ vs. arrays c.args.point.path c.args.point.row c.args.spot vs c.args.highs.now)
+    (λ v. array_by c.args.point.path c.args.point.row c.args.spot v c.args.highs.now) (λ _ _. refl) c.args.lows.now
     c.loop-low.low-index _ _ _ _ c.loop-low-test.true
     c.in_ok-add_array_by.ensures c.loop-low.invariant
 
@@ -19,6 +19,6 @@ returns-in_err-add_array_by c = on_ok _ c.from_residual.result c.from_residual.e
 
 pub returns : goal.returns
 returns c =
-    gathered-all (λ vs. arrays c.args.path c.args.row c.args.spot vs c.args.highs.now) refl c.args.lows.now
+    gathered-all (λ vs. arrays c.args.point.path c.args.point.row c.args.spot vs c.args.highs.now) refl c.args.lows.now
     c.loop-low.low-index _ _ c.loop-low-test.false
     c.loop-low.invariant

@@ -9,8 +9,9 @@ loop-target-init c = refl
 
 pub loop-target-preserved : goal.loop-target-preserved
 loop-target-preserved c =
-    gathered-more (λ vs. fetches c.args.cells.now c.args.path c.args.row vs c.args.indices.now)
-    (λ v. fetch_by c.args.cells.now c.args.path c.args.row v c.args.indices.now) (λ _ _. refl) c.args.targets.now
+    gathered-more (λ vs. fetches c.args.lookup.now.cells.now c.args.point.path c.args.point.row vs c.args.indices.now)
+    (λ v. fetch_by c.args.lookup.now.cells.now c.args.point.path c.args.point.row v c.args.indices.now) (λ _ _. refl)
+    c.args.targets.now
     c.loop-target.target-index _ _ _ _
     c.loop-target-test.true c.in_ok-add_fetch_by.ensures c.loop-target.invariant
 
@@ -19,6 +20,7 @@ returns-in_err-add_fetch_by c = on_ok _ c.from_residual.result c.from_residual.e
 
 pub returns : goal.returns
 returns c =
-    gathered-all (λ vs. fetches c.args.cells.now c.args.path c.args.row vs c.args.indices.now) refl c.args.targets.now
+    gathered-all (λ vs. fetches c.args.lookup.now.cells.now c.args.point.path c.args.point.row vs c.args.indices.now)
+    refl c.args.targets.now
     c.loop-target.target-index _ _
     c.loop-target-test.false c.loop-target.invariant

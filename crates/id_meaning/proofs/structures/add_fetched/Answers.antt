@@ -9,8 +9,8 @@ loop-index-init c = refl
 
 pub loop-index-preserved : goal.loop-index-preserved
 loop-index-preserved c =
-    gathered-more (asked c.args.path c.args.row c.args.name c.args.shapes.now)
-    (asked_by c.args.path c.args.row c.args.name c.args.shapes.now) (λ _ _. refl)
+    gathered-more (asked c.args.point.path c.args.point.row c.args.name c.args.shapes.now)
+    (asked_by c.args.point.path c.args.point.row c.args.name c.args.shapes.now) (λ _ _. refl)
     c.args.indices.now c.loop-index.index-index _ _ _ _ c.loop-index-test.true c.in_ok-add_fetched_by.ensures
     c.loop-index.invariant
 
@@ -19,6 +19,6 @@ returns-in_err-add_fetched_by c = on_ok _ c.from_residual.result c.from_residual
 
 pub returns : goal.returns
 returns c =
-    gathered-all (asked c.args.path c.args.row c.args.name c.args.shapes.now) refl c.args.indices.now
+    gathered-all (asked c.args.point.path c.args.point.row c.args.name c.args.shapes.now) refl c.args.indices.now
     c.loop-index.index-index _ _ c.loop-index-test.false
     c.loop-index.invariant

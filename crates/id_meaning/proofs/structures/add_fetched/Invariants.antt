@@ -5,5 +5,6 @@ use Rattle.id_meaning.proofs.structures.add_fetched.Given as goal
 
 abbrev pub invariant-loop-index : goal.invariant-loop-index
 invariant-loop-index l =
-    l.found.items ++ asked l.path l.row l.name l.shapes (drop l.index-index l.indices) ≡ l.initial.found.items
-    ++ asked l.path l.row l.name l.shapes l.indices
+    l.found.items ++ asked l.point.path l.point.row l.name l.shapes (drop l.index-index l.indices)
+    ≡ l.initial.found.items
+    ++ asked l.point.path l.point.row l.name l.shapes l.indices

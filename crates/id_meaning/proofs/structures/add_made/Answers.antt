@@ -11,7 +11,8 @@ loop-high-init c = refl
 pub loop-high-preserved : goal.loop-high-preserved
 loop-high-preserved c =
     let n = to_z w64 (of_z w64 c.args.low) in
-    gathered-more (made c.args.path c.args.row c.args.spot n) (made_by c.args.path c.args.row c.args.spot n)
+    gathered-more (made c.args.point.path c.args.point.row c.args.spot n)
+    (made_by c.args.point.path c.args.point.row c.args.spot n)
     (λ _ _. refl) c.args.highs.now
     c.loop-high.high-index _ _ _ _ c.loop-high-test.true c.in_ok-add_made_by.ensures c.loop-high.invariant
 
@@ -22,5 +23,6 @@ pub returns : goal.returns
 returns c =
     let n = to_z w64 (of_z w64 c.args.low) in
     rw (to_z-of_z w64 c.args.low c.ranges.low) at
-    (gathered-all (made c.args.path c.args.row c.args.spot n) refl c.args.highs.now c.loop-high.high-index _ _
+    (gathered-all (made c.args.point.path c.args.point.row c.args.spot n) refl c.args.highs.now c.loop-high.high-index _
+    _
     c.loop-high-test.false c.loop-high.invariant)

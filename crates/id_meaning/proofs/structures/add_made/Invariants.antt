@@ -5,5 +5,5 @@ use Rattle.id_meaning.proofs.structures.add_made.Given as goal
 
 abbrev pub invariant-loop-high : goal.invariant-loop-high
 invariant-loop-high l =
-    l.found.items ++ made l.path l.row l.spot l.low (drop l.high-index l.highs) ≡ l.initial.found.items
-    ++ made l.path l.row l.spot l.low l.highs
+    l.found.items ++ made l.point.path l.point.row l.spot l.low (drop l.high-index l.highs) ≡ l.initial.found.items
+    ++ made l.point.path l.point.row l.spot l.low l.highs

@@ -12,7 +12,8 @@ loop-value-init c = refl
 pub loop-value-preserved : goal.loop-value-preserved
 loop-value-preserved c =
     let j = to_z w64 (of_z w64 c.args.index) in
-    gathered-more (put_in c.args.path c.args.row c.args.name j) (λ v. Put c.args.path c.args.row c.args.name j v ∷ [])
+    gathered-more (put_in c.args.point.path c.args.point.row c.args.name j)
+    (λ v. Put c.args.point.path c.args.point.row c.args.name j v ∷ [])
     (λ _ _. refl) c.args.values.now
     c.loop-value.value-index _ _ _ _ c.loop-value-test.true c.in_ok-push.ensures.items c.loop-value.invariant
 
@@ -23,5 +24,5 @@ pub returns : goal.returns
 returns c =
     let j = to_z w64 (of_z w64 c.args.index) in
     rw (to_z-of_z w64 c.args.index c.ranges.index) at
-    (gathered-all (put_in c.args.path c.args.row c.args.name j) refl c.args.values.now
+    (gathered-all (put_in c.args.point.path c.args.point.row c.args.name j) refl c.args.values.now
     c.loop-value.value-index _ _ c.loop-value-test.false c.loop-value.invariant)

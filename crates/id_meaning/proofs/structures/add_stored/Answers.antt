@@ -9,8 +9,11 @@ loop-target-init c = refl
 
 pub loop-target-preserved : goal.loop-target-preserved
 loop-target-preserved c =
-    gathered-more (λ us. stores c.args.cells.now c.args.path c.args.row us c.args.indices.now c.args.values.now)
-    (λ u. store_by c.args.cells.now c.args.path c.args.row u c.args.indices.now c.args.values.now) (λ _ _. refl)
+    gathered-more
+    (λ us. stores c.args.lookup.now.cells.now c.args.point.path c.args.point.row us c.args.indices.now
+    c.args.values.now)
+    (λ u. store_by c.args.lookup.now.cells.now c.args.point.path c.args.point.row u c.args.indices.now
+    c.args.values.now) (λ _ _. refl)
     c.args.targets.now
     c.loop-target.target-index _ _ _ _ c.loop-target-test.true c.in_ok-add_store_by.ensures c.loop-target.invariant
 
@@ -19,6 +22,8 @@ returns-in_err-add_store_by c = on_ok _ c.from_residual.result c.from_residual.e
 
 pub returns : goal.returns
 returns c =
-    gathered-all (λ us. stores c.args.cells.now c.args.path c.args.row us c.args.indices.now c.args.values.now) refl
+    gathered-all
+    (λ us. stores c.args.lookup.now.cells.now c.args.point.path c.args.point.row us c.args.indices.now
+    c.args.values.now) refl
     c.args.targets.now
     c.loop-target.target-index _ _ c.loop-target-test.false c.loop-target.invariant

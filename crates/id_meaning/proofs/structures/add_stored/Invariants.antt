@@ -5,6 +5,7 @@ use Rattle.id_meaning.proofs.structures.add_stored.Given as goal
 
 abbrev pub invariant-loop-target : goal.invariant-loop-target
 invariant-loop-target l =
-    l.found.items ++ stores l.cells l.path l.row (drop l.target-index l.targets) l.indices l.values
+    l.found.items ++ stores l.lookup.cells.now l.point.path l.point.row (drop l.target-index l.targets) l.indices
+    l.values
     ≡ l.initial.found.items ++
-    stores l.cells l.path l.row l.targets l.indices l.values
+    stores l.lookup.cells.now l.point.path l.point.row l.targets l.indices l.values

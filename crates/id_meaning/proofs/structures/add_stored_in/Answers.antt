@@ -9,8 +9,9 @@ loop-index-init c = refl
 
 pub loop-index-preserved : goal.loop-index-preserved
 loop-index-preserved c =
-    gathered-more (λ ws. stored c.args.path c.args.row c.args.name c.args.shapes.now ws c.args.values.now)
-    (stored_by c.args.path c.args.row c.args.name c.args.shapes.now c.args.values.now) (λ _ _. refl) c.args.indices.now
+    gathered-more (λ ws. stored c.args.point.path c.args.point.row c.args.name c.args.shapes.now ws c.args.values.now)
+    (stored_by c.args.point.path c.args.point.row c.args.name c.args.shapes.now c.args.values.now) (λ _ _. refl)
+    c.args.indices.now
     c.loop-index.index-index _ _ _ _
     c.loop-index-test.true c.in_ok-add_stored_by.ensures c.loop-index.invariant
 
@@ -19,6 +20,7 @@ returns-in_err-add_stored_by c = on_ok _ c.from_residual.result c.from_residual.
 
 pub returns : goal.returns
 returns c =
-    gathered-all (λ ws. stored c.args.path c.args.row c.args.name c.args.shapes.now ws c.args.values.now) refl
+    gathered-all (λ ws. stored c.args.point.path c.args.point.row c.args.name c.args.shapes.now ws c.args.values.now)
+    refl
     c.args.indices.now c.loop-index.index-index
     _ _ c.loop-index-test.false c.loop-index.invariant

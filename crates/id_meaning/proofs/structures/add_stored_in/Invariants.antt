@@ -5,6 +5,7 @@ use Rattle.id_meaning.proofs.structures.add_stored_in.Given as goal
 
 abbrev pub invariant-loop-index : goal.invariant-loop-index
 invariant-loop-index l =
-    l.found.items ++ stored l.path l.row l.name l.shapes (drop l.index-index l.indices) l.values ≡ l.initial.found.items
+    l.found.items ++ stored l.point.path l.point.row l.name l.shapes (drop l.index-index l.indices) l.values
+    ≡ l.initial.found.items
     ++
-    stored l.path l.row l.name l.shapes l.indices l.values
+    stored l.point.path l.point.row l.name l.shapes l.indices l.values

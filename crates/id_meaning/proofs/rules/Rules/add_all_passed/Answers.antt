@@ -11,9 +11,11 @@ loop-row-init c = refl
 
 pub loop-row-preserved : goal.loop-row-preserved
 loop-row-preserved c =
-    gathered-more (all_passed c.args.self.now.checked.now c.args.self.now.cells.now c.args.followed c.args.path
+    gathered-more
+    (all_passed c.args.self.now.checked.now c.args.lookup.now.cells.now c.args.lookup.now.followed c.args.path
     c.args.call)
-    (λ m. passed_of c.args.self.now.checked.now c.args.self.now.cells.now c.args.followed c.args.path c.args.call (at
+    (λ m. passed_of c.args.self.now.checked.now c.args.lookup.now.cells.now c.args.lookup.now.followed c.args.path
+    c.args.call (at
     (rows c.args.self.now.checked.now) m).node) (λ _ _. refl)
     c.args.rows.now c.loop-row.row-index _ _ _ _ c.loop-row-test.true (rw c.node_of.ensures at
     c.in_ok-add_passed.ensures) c.loop-row.invariant
@@ -23,6 +25,7 @@ returns-in_err-add_passed c = on_ok _ c.from_residual.result c.from_residual.ens
 
 pub returns : goal.returns
 returns c =
-    gathered-all (all_passed c.args.self.now.checked.now c.args.self.now.cells.now c.args.followed c.args.path
+    gathered-all
+    (all_passed c.args.self.now.checked.now c.args.lookup.now.cells.now c.args.lookup.now.followed c.args.path
     c.args.call) refl c.args.rows.now c.loop-row.row-index _ _
     c.loop-row-test.false c.loop-row.invariant

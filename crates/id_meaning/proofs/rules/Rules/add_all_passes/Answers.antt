@@ -9,10 +9,10 @@ loop-row-init c = refl
 
 pub loop-row-preserved : goal.loop-row-preserved
 loop-row-preserved c =
-    gathered-more (all_passes c.args.self.now.checked.now c.args.self.now.cells.now c.args.path c.args.value
-    c.args.enter c.args.index)
-    (λ n. pass_by c.args.self.now.checked.now c.args.enter c.args.index c.args.value (entered
-    c.args.self.now.checked.now c.args.self.now.cells.now c.args.path n)) (λ _ _. refl)
+    gathered-more (all_passes c.args.self.now.checked.now c.args.self.now.cells.now c.args.enter.path c.args.value
+    c.args.enter.row c.args.index)
+    (λ n. pass_by c.args.self.now.checked.now c.args.enter.row c.args.index c.args.value (entered
+    c.args.self.now.checked.now c.args.self.now.cells.now c.args.enter.path n)) (λ _ _. refl)
     c.args.rows.now c.loop-row.row-index _ _ _ _ c.loop-row-test.true (rw c.entered-call.ensures at
     c.in_ok-add_pass_by.ensures) c.loop-row.invariant
 
@@ -21,6 +21,7 @@ returns-in_err-add_pass_by c = on_ok _ c.from_residual.result c.from_residual.en
 
 pub returns : goal.returns
 returns c =
-    gathered-all (all_passes c.args.self.now.checked.now c.args.self.now.cells.now c.args.path c.args.value c.args.enter
+    gathered-all
+    (all_passes c.args.self.now.checked.now c.args.self.now.cells.now c.args.enter.path c.args.value c.args.enter.row
     c.args.index) refl c.args.rows.now
     c.loop-row.row-index _ _ c.loop-row-test.false c.loop-row.invariant

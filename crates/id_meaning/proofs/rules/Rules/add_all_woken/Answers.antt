@@ -9,9 +9,11 @@ loop-wait-init c = refl
 
 pub loop-wait-preserved : goal.loop-wait-preserved
 loop-wait-preserved c =
-    gathered-more (all_woken c.args.self.now.checked.now c.args.self.now.links.now c.args.self.now.cells.now c.args.path
-    c.args.row c.args.value)
-    (woken c.args.self.now.checked.now c.args.self.now.links.now c.args.self.now.cells.now c.args.path c.args.row
+    gathered-more
+    (all_woken c.args.self.now.checked.now c.args.self.now.links.now c.args.self.now.cells.now c.args.point.path
+    c.args.point.row c.args.value)
+    (woken c.args.self.now.checked.now c.args.self.now.links.now c.args.self.now.cells.now c.args.point.path
+    c.args.point.row
     c.args.value) (λ _ _. refl) c.args.waits.now c.loop-wait.wait-index _ _ _ _
     c.loop-wait-test.true c.in_ok-add_woken.ensures c.loop-wait.invariant
 
@@ -20,6 +22,7 @@ returns-in_err-add_woken c = on_ok _ c.from_residual.result c.from_residual.ensu
 
 pub returns : goal.returns
 returns c =
-    gathered-all (all_woken c.args.self.now.checked.now c.args.self.now.links.now c.args.self.now.cells.now c.args.path
-    c.args.row c.args.value) refl c.args.waits.now c.loop-wait.wait-index _ _
+    gathered-all
+    (all_woken c.args.self.now.checked.now c.args.self.now.links.now c.args.self.now.cells.now c.args.point.path
+    c.args.point.row c.args.value) refl c.args.waits.now c.loop-wait.wait-index _ _
     c.loop-wait-test.false c.loop-wait.invariant

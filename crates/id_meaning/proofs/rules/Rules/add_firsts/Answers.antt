@@ -11,10 +11,13 @@ loop-next-init c = refl
 
 pub loop-next-preserved : goal.loop-next-preserved
 loop-next-preserved c =
-    gathered-more (firsts c.args.self.now.checked.now c.args.self.now.cells.now c.args.followed c.args.path c.args.row
-    c.args.first c.args.head)
-    (λ m. first_of c.args.self.now.checked.now c.args.self.now.cells.now c.args.followed c.args.path c.args.row
-    c.args.first c.args.head m (at (rows c.args.self.now.checked.now) m).node)
+    gathered-more
+    (firsts c.args.self.now.checked.now c.args.lookup.now.cells.now c.args.lookup.now.followed c.args.point.path
+    c.args.point.row
+    c.args.head.path c.args.head.row)
+    (λ m. first_of c.args.self.now.checked.now c.args.lookup.now.cells.now c.args.lookup.now.followed c.args.point.path
+    c.args.point.row
+    c.args.head.path c.args.head.row m (at (rows c.args.self.now.checked.now) m).node)
     (λ _ _. refl) c.args.nexts.now c.loop-next.next-index _ _ _ _ c.loop-next-test.true c.in_ok-add_first.ensures
     c.loop-next.invariant
 
@@ -23,6 +26,8 @@ returns-in_err-add_first c = on_ok _ c.from_residual.result c.from_residual.ensu
 
 pub returns : goal.returns
 returns c =
-    gathered-all (firsts c.args.self.now.checked.now c.args.self.now.cells.now c.args.followed c.args.path c.args.row
-    c.args.first c.args.head) refl c.args.nexts.now
+    gathered-all
+    (firsts c.args.self.now.checked.now c.args.lookup.now.cells.now c.args.lookup.now.followed c.args.point.path
+    c.args.point.row
+    c.args.head.path c.args.head.row) refl c.args.nexts.now
     c.loop-next.next-index _ _ c.loop-next-test.false c.loop-next.invariant

@@ -5,6 +5,8 @@ use Rattle.id_meaning.proofs.rules.Rules.add_firsts.Given as goal
 
 abbrev pub invariant-loop-next : goal.invariant-loop-next
 invariant-loop-next l =
-    l.found.items ++ firsts l.self.checked.now l.self.cells.now l.followed l.path l.row l.first l.head (drop
+    l.found.items ++ firsts l.self.checked.now l.lookup.cells.now l.lookup.followed l.point.path l.point.row l.head.path
+    l.head.row (drop
     l.next-index l.nexts) ≡ l.initial.found.items ++
-    firsts l.self.checked.now l.self.cells.now l.followed l.path l.row l.first l.head l.nexts
+    firsts l.self.checked.now l.lookup.cells.now l.lookup.followed l.point.path l.point.row l.head.path l.head.row
+    l.nexts

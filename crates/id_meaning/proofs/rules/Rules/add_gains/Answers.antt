@@ -9,9 +9,11 @@ loop-reader-init c = refl
 
 pub loop-reader-preserved : goal.loop-reader-preserved
 loop-reader-preserved c =
-    gathered-more (gains c.args.self.now.checked.now c.args.self.now.links.now c.args.self.now.cells.now c.args.path
-    c.args.row c.args.value)
-    (gain c.args.self.now.checked.now c.args.self.now.links.now c.args.self.now.cells.now c.args.path c.args.row
+    gathered-more
+    (gains c.args.self.now.checked.now c.args.self.now.links.now c.args.self.now.cells.now c.args.point.path
+    c.args.point.row c.args.value)
+    (gain c.args.self.now.checked.now c.args.self.now.links.now c.args.self.now.cells.now c.args.point.path
+    c.args.point.row
     c.args.value) (λ _ _. refl) c.args.rows.now c.loop-reader.reader-index
     _ _ _ _ c.loop-reader-test.true c.in_ok-add_gain.ensures c.loop-reader.invariant
 
@@ -20,6 +22,7 @@ returns-in_err-add_gain c = on_ok _ c.from_residual.result c.from_residual.ensur
 
 pub returns : goal.returns
 returns c =
-    gathered-all (gains c.args.self.now.checked.now c.args.self.now.links.now c.args.self.now.cells.now c.args.path
-    c.args.row c.args.value) refl c.args.rows.now
+    gathered-all
+    (gains c.args.self.now.checked.now c.args.self.now.links.now c.args.self.now.cells.now c.args.point.path
+    c.args.point.row c.args.value) refl c.args.rows.now
     c.loop-reader.reader-index _ _ c.loop-reader-test.false c.loop-reader.invariant

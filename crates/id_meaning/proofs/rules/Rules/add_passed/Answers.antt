@@ -46,7 +46,8 @@ pub returns-in_ok-values-in-Arg : goal.returns-in_ok-values-in-Arg
 returns-in_ok-values-in-Arg c =
     let table = c.args.self.now.checked.now.table in
     let count : c.len.result ≡ length table.rows.items = omega (arith, c.len.ensures, table.rows.ok.0) in
-    passed c.args.self.now.checked.now c.args.self.now.cells.now c.args.followed c.args.path c.args.call c.args.node
+    passed c.args.self.now.checked.now c.args.lookup.now.cells.now c.args.lookup.now.followed c.args.path c.args.call
+    c.args.node
     c.in-Arg.enter c.in-Arg.index c.in-Arg.value
     c.param_row-param.result c.as_slice.result.now c.add_param.result c.args.found.now.items c.push.new.self.items
     c.add_param.new.found.items

@@ -14,7 +14,7 @@ loop-point-preserved c =
     gathered-more (reached c.args.self.now.checked.now c.args.self.now.links.now c.args.self.now.cells.now c.args.name)
     (λ q. gains c.args.self.now.checked.now c.args.self.now.links.now c.args.self.now.cells.now q.path q.row (Name
     c.args.name) (targets c.args.self.now.links.now.reads.rows.items q.row))
-    (λ _ _. refl) c.args.points.now c.loop-point.point-index _ _ _ _ c.loop-point-test.true (rw c.of.ensures at
+    (λ _ _. refl) c.args.points.now c.loop-point.point-index _ _ _ _ c.loop-point-test.true (rw c.of-rows.ensures at
     c.in_ok-add_gains.ensures)
     c.loop-point.invariant
 
