@@ -3,4 +3,4 @@ use Rattle.std.proofs.Common.{◌≡◌, ◌≤◌, replicate, vec_capacity, vec
 use Rattle.id_judge.proofs.lines.first_stamps.Given as goal
 
 abbrev pub invariant-loop-number : goal.invariant-loop-number
-invariant-loop-number l = (l.stamps.items ≡ replicate l.number 0) × (vec_len l.stamps ≡ l.number) × (l.count ≤ vec_capacity l.stamps)
+invariant-loop-number l = (l.stamps.items ≡ replicate l.number 0) × (vec_len l.stamps ≡ l.number) × (l.fn.count.number ≤ vec_capacity l.stamps)
