@@ -1,26 +1,31 @@
 -- What a delivery leaves.
-use Rattle.std.proofs.Common.{◌≡◌, ℕ, ◌-◌, ◌<◌, Bool, true, false, Some, List, [], ◌∷◌, ◌++◌, map, length, get_or, set}
-use Rattle.std.proofs.Common.{slice_get, slice_set, inr, refl, sym, ap, ◌∙◌, subst, arith}
-use Rattle.std.specs.Prelude.{All, Err, IsTrue, Ok, Result, option_map}
+use Rattle.std.proofs.Common.{◌≡◌, ℕ, zero, ◌-◌, ◌<◌, Bool, true, false, Some, List, [], ◌∷◌, ◌++◌, map, length, get_or}
+use Rattle.std.proofs.Common.{set, slice_get, slice_set, inl, inr, refl, sym, ap, ◌∙◌, subst, append_assoc, arith}
+use Rattle.std.specs.Prelude.{All, Err, IsTrue, Ok, OnErr, OnOk, Result, is_err, option_map}
+use Rattle.std.specs.List.{remove}
+use Rattle.std.proofs.lemmas.Bool.{false≢true}
 use Rattle.std.proofs.lemmas.List.{length-set, length-append, map-set}
-use Rattle.std.proofs.lemmas.List.Elements.{All-append}
-use Rattle.std.proofs.lemmas.Option.{get_or_from_slice_get, slice_get_within, slice_get-map, slice_get-get_or}
-use Rattle.std.proofs.lemmas.Option.{slice_get_read}
+use Rattle.std.proofs.lemmas.List.Elements.{All-push}
+use Rattle.std.proofs.lemmas.Option.{get_or_from_slice_get, slice_get_cases, slice_get_within, slice_get-map}
+use Rattle.std.proofs.lemmas.Option.{slice_get-get_or, slice_get_read}
 use Rattle.id_value.specs.List.{Among}
 use Rattle.id_value.proofs.AmongLemmas.{Among-from_at, at-from_Among}
 use Rattle.id_value.proofs.PlacesLemmas.{set-here, slice_get-last}
 use Rattle.id_instr.specs.Graph.{Parts}
 use Rattle.id_tag.specs.declared.Message.{Message}
 use Rattle.id_tag.specs.Routes.{route_of}
+use Rattle.id_record.specs.declared.kept.Keeps.{Keeps}
 use Rattle.id_record.specs.declared.step.Step.{Step}
+use Rattle.id_step.specs.declared.step.TakeError.{TakeError}
+use Rattle.id_step.specs.Takes.{Handles}
 use Rattle.id_core.specs.Events.{EventView}
-use Rattle.id_core.specs.Fits.{Fits, IsFor}
+use Rattle.id_core.specs.Fits.{Fits}
 use Rattle.id_core.specs.Replays.{ElementView}
 use Rattle.id_core.specs.Steps.{State, event_of, is_ended, outputs_of, state_after, step_of}
-use Rattle.id_core.specs.Machines.{IsElement}
-use Rattle.id_core.proofs.MachinesLemmas.{IsDelivery, IsGiven, IsMachine-deliver, is_for, taken}
+use Rattle.id_core.specs.Machines.{IsElement, IsMachine}
+use Rattle.id_core.proofs.MachinesLemmas.{IsGiven, IsMachine-given, taken}
 use Rattle.id_runs.specs.Legal.{CanFollow, InSomeOrder, after_event}
-use Rattle.id_judge.specs.Benches.{BenchView, Delivers, IsBench, IsLast, Replaces, number_for, world_in}
+use Rattle.id_judge.specs.Benches.{BenchView, Delivers, IsLast, Replaces, number_for, world_in}
 use Rattle.id_judge.proofs.OrderLemmas.{also_among, other_order}
 
 -- what holds of all holds of those that are among them
@@ -31,56 +36,108 @@ all_among P xs ys inside all k d lt =
     let found = at-from_Among y xs (inside y (Among-from_at y ys k (slice_get-get_or ys k d lt))) in
     subst P (get_or_from_slice_get xs found.0 y d found.1) (all found.0 d (slice_get_within xs found.0 y found.1))
 
-module _ (b : BenchView) (bench : IsBench b) (k : ℕ) (m : Message) (at : slice_get b.flight k ≡ Some m)
-    (e : ElementView)
+-- ---- what is sent
+
+-- a message that is added stands behind the others
+pub sent_more : {A E : Type 0} (r : Result A E) (b : Bool) → b ≡ is_err r → b ≡ false
+    → (flight more sent left all : List Message) (m : Message) → OnOk r (more ≡ flight ++ m ∷ []) → sent ≡ m ∷ left
+    → flight ++ sent ≡ all → more ++ left ≡ all
+sent_more (Ok x) b is kept flight more sent left all m added was same =
+    ap (λ ms. ms ++ left) added ∙ append_assoc flight (m ∷ []) left ∙ ap (λ ms. flight ++ ms) (sym was) ∙ same
+sent_more (Err e) b is kept flight more sent left all m added was same = absurd (false≢true (sym kept ∙ is))
+
+-- whether it is added or not, all still fits
+pub fit_more : {A E : Type 0} (r : Result A E) (g : Parts) (flight more sent left : List Message) (m : Message)
+    → OnOk r (more ≡ flight ++ m ∷ []) → OnErr r (more ≡ flight) → sent ≡ m ∷ left
+    → All (Fits g) flight × All (Fits g) sent → All (Fits g) more × All (Fits g) left
+fit_more {A} {E} r g flight more sent left m added lost was fit =
+    (here r added lost, all_among (Fits g) (m ∷ left) left (λ y a. inr a) rest)
+  where
+    rest : All (Fits g) (m ∷ left)
+    rest = subst (All (Fits g)) was fit.1
+
+    here : (a : Result A E) → OnOk a (more ≡ flight ++ m ∷ []) → OnErr a (more ≡ flight) → All (Fits g) more
+    here (Ok x) is none = subst (All (Fits g)) (sym is) (All-push (Fits g) flight m fit.0 (rest zero m (omega arith)))
+    here (Err e) none is = subst (All (Fits g)) (sym is) fit.0
+
+-- what is left when a message is taken out fits, where all fitted
+pub fit_left : (g : Parts) (old left : List Message) (k : ℕ) → k < length old
+    → ((m : Message) → slice_get old k ≡ Some m → InSomeOrder old (m ∷ left)) → All (Fits g) old → All (Fits g) left
+fit_left g old left k within out all = elim ((slice_get_cases old k).1) [
+  | inl there ↦ all_among (Fits g) old left
+      (λ y a. also_among y (there.0 ∷ left) old (other_order old (there.0 ∷ left) (out there.0 there.2)) (inr a)) all
+  | inr past ↦ absurd (omega (arith, within, past.0))
+]
+
+-- ---- what every delivery keeps
+
+module _ {g : Parts} {keeps : Keeps} {es : List ElementView} {flight : List Message} {k n : ℕ} {m : Message}
+    {e : ElementView}
+    (given : IsGiven g (length es) es flight k n m e) (old : IsMachine g keeps es flight) where
+  -- the element is the one of its number
+  own_element : IsElement g (length es) n e
+  own_element = subst (IsElement g (length es) n) (get_or_from_slice_get es n e e given.element)
+      (old.elements n e (slice_get_within es n e given.element))
+
+  -- with other messages in flight, which fit, the machine stays one, whatever the delivery came to
+  pub machine_after : (later : ElementView) (sent outs left : List Message) (r : Result Step TakeError)
+      → Handles e later m sent sent outs r → All (Fits g) left → IsMachine g keeps (set es n later) left
+  machine_after later sent outs left r h fit =
+      let all : IsMachine g keeps (set es n later) (rest r) = IsMachine-given given old r (moved r h) in
+      record {
+        at_least_one = all.at_least_one;
+        at_most_64 = all.at_most_64;
+        elements = all.elements;
+        kept = all.kept;
+        flight_fits = fit;
+      }
+    where
+      rest : Result Step TakeError → List Message
+      rest (Ok s) = remove flight k ++ outputs_of e.graph e.number e.state m
+      rest (Err x) = flight
+
+      moved : (a : Result Step TakeError) → Handles e later m sent sent outs a
+          → Handles e later m flight (remove flight k) (rest a) a
+      moved (Ok s) x = record {
+        becomes =
+            record { stamp = x.becomes.stamp; step = x.becomes.step; element = x.becomes.element; outputs = refl };
+        fits = x.fits;
+        ended = x.ended;
+      }
+      moved (Err y) x = record {
+        becomes = record { element = x.becomes.element; same = refl };
+        fits = x.fits;
+        ended = x.ended;
+      }
+
+  -- what was sent fits
+  pub sent_fit : (later : ElementView) (sent outs : List Message) (s : Step) → sent ≡ []
+      → Handles e later m sent sent outs (Ok s) → All (Fits g) outs
+  sent_fit later sent outs s none h =
+      let P : Parts → Type 0 = λ x. All (Fits x) (outputs_of e.graph e.number e.state m) in
+      subst (All (Fits g)) (sym (h.becomes.outputs ∙ ap (λ ms. ms ++ outputs_of e.graph e.number e.state m) none))
+      (subst P own_element.graph h.fits)
+
+-- ---- what a delivery comes to
+
+module _ (b : BenchView) (bench : IsMachine b.graph b.keeps b.elements b.flight) (k : ℕ) (m : Message)
+    (at : slice_get b.flight k ≡ Some m) (e : ElementView)
     (element : slice_get b.elements (number_for b m) ≡ Some e) where
   abbrev n : ℕ
   n = number_for b m
 
-  given : IsGiven b.graph (length b.elements) b.elements b.flight k n m e
-  given = record { there = at; routed = refl; element = element }
-
-  -- the message is for its element
-  pub for_it : IsFor e.graph e.count e.number m
-  for_it = is_for given bench.machine
-
   element_is : IsElement b.graph (length b.elements) n e
-  element_is = subst (IsElement b.graph (length b.elements) n) (get_or_from_slice_get b.elements n e e element)
-      (bench.machine.elements n e (slice_get_within b.elements n e element))
+  element_is =
+      own_element {flight = b.flight} {k = k} {m = m} (record { there = at; routed = refl; element = element }) bench
 
-  module _ (left : is_ended e.state m ≡ false) (fits : All (Fits e.graph) (outputs_of e.graph e.number e.state m))
-      (others : List Message)
-      (out : InSomeOrder b.flight (m ∷ others)) where
+  module _ (left : is_ended e.state m ≡ false) (others : List Message) (out : InSomeOrder b.flight (m ∷ others)) where
     abbrev pub after : BenchView
     after = record {
       graph = b.graph;
       keeps = b.keeps;
       elements = set b.elements n (taken e m);
       flight = others ++ outputs_of e.graph e.number e.state m;
-      sent = [];
     }
-
-    delivery : IsDelivery b.graph (length b.elements) b.elements b.flight k n m e
-    delivery = record { given = given; left = left; same = element_is }
-
-    pub bench_after : IsBench after
-    bench_after =
-        let old = IsMachine-deliver b.graph b.keeps b.elements b.flight k n m e bench.machine delivery fits in
-        record {
-          machine = record {
-            at_least_one = old.at_least_one;
-            at_most_64 = old.at_most_64;
-            elements = old.elements;
-            kept = old.kept;
-            flight_fits = All-append (Fits b.graph) others (outputs_of e.graph e.number e.state m)
-                (all_among (Fits b.graph) b.flight others
-                (λ y a. also_among y (m ∷ others) b.flight (other_order b.flight (m ∷ others) out) (inr a))
-                bench.machine.flight_fits)
-                (let P : Parts → Type 0 = λ x. All (Fits x) (outputs_of e.graph e.number e.state m) in
-                subst P element_is.graph fits);
-          };
-          none = refl;
-        }
 
     abbrev event : EventView
     event = event_of b.graph n e.state m
@@ -161,30 +218,19 @@ last_at b m v e events l there is =
     some_one x y h = cc
 
 -- a message was taken by its element, and what it sent is in flight in its place
-pub done : (b : BenchView) (bench : IsBench b) (k : ℕ) (m : Message) (at : slice_get b.flight k ≡ Some m)
-    (e : ElementView)
-    (element : slice_get b.elements (number_for b m) ≡ Some e) (left : is_ended e.state m ≡ false)
-    (fits : All (Fits e.graph) (outputs_of e.graph e.number e.state m)) (mid c : BenchView) → mid.flight ≡ b.flight
-    → mid.sent ≡ b.sent ++ outputs_of e.graph e.number e.state m → Replaces m mid c → c.graph ≡ b.graph
-    → c.keeps ≡ b.keeps → c.elements ≡ set b.elements (number_for b m) (taken e m) → c.sent ≡ [] → (s : Step)
-    → s ≡ step_of e.graph e.number e.state m → IsBench c × Delivers b m s c
-done b bench k m at e element left fits mid c flight sent r graph keeps elements nothing s is =
-    let out : InSomeOrder b.flight (m ∷ r.others) =
-    subst (λ (ms : List Message). InSomeOrder ms (m ∷ r.others)) flight r.out in
+pub done : (b : BenchView) (bench : IsMachine b.graph b.keeps b.elements b.flight) (k : ℕ) (m : Message)
+    (at : slice_get b.flight k ≡ Some m) (e : ElementView) (element : slice_get b.elements (number_for b m) ≡ Some e)
+    (left : is_ended e.state m ≡ false)
+    (sent outs : List Message) (c : BenchView) → sent ≡ [] → outs ≡ sent ++ outputs_of e.graph e.number e.state m
+    → Replaces m b.flight outs c.flight → c.graph ≡ b.graph → c.keeps ≡ b.keeps
+    → c.elements ≡ set b.elements (number_for b m) (taken e m)
+    → (s : Step) → s ≡ step_of e.graph e.number e.state m → Delivers b m s c
+done b bench k m at e element left sent outs c none is r graph keeps elements s came =
     let all : c.flight ≡ r.others ++ outputs_of e.graph e.number e.state m =
-    r.flight ∙ ap (λ ms. r.others ++ ms) (sent ∙ ap (λ ms. ms ++ outputs_of e.graph e.number e.state m) bench.none) in
-    let same : after b bench k m at e element left fits r.others out ≡ c =
-    λ i. record {
-      graph = sym graph i;
-      keeps = sym keeps i;
-      elements = sym elements i;
-      flight = sym all i;
-      sent =
-          sym nothing i;
-    } in (
-      subst IsBench same (bench_after b bench k m at e element left fits r.others out),
-      subst (Delivers b m s) same (delivers b bench k m at e element left fits r.others out s is),
-    )
+    r.flight ∙ ap (λ ms. r.others ++ ms) (is ∙ ap (λ ms. ms ++ outputs_of e.graph e.number e.state m) none) in
+    let same : after b bench k m at e element left r.others r.out ≡ c =
+    λ i. record { graph = sym graph i; keeps = sym keeps i; elements = sym elements i; flight = sym all i } in
+    subst (Delivers b m s) same (delivers b bench k m at e element left r.others r.out s came)
 
 pub left_ok : {A E : Type 0} (a : A) (x : E) (b : Bool) → (◌≡◌ {A = Result A E} (Ok a) (Err x) → IsTrue b)
     × (IsTrue b → ◌≡◌ {A = Result A E} (Ok a) (Err x)) → b ≡ false

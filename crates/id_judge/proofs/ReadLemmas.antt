@@ -25,7 +25,7 @@ use Rattle.id_judge.specs.declared.verdict.Cause.{Cause}
 use Rattle.id_judge.specs.declared.verdict.Cause.TheVariants.{NotInFlight, OtherElement, NoStamp, OtherStamp}
 use Rattle.id_judge.specs.declared.verdict.Cause.TheVariants.{OtherOutcome, NoLine}
 use Rattle.id_judge.specs.Verdicts.{Follows}
-use Rattle.id_judge.specs.Benches.{BenchView, Delivers, IsBench, IsEnded, number_for, world_in}
+use Rattle.id_judge.specs.Benches.{BenchView, Delivers, IsEnded, number_for, world_in}
 use Rattle.id_judge.specs.Lines.{Advances, AreSmall, AreStamps, BeginsAt, Compares, IsFirstLine, IsFound, IsLegalTrace}
 use Rattle.id_judge.specs.Lines.{IsLineCause, IsOther, IsSaid, IsTold, Says, behind}
 use Rattle.id_judge.specs.Ends.{is_line as may_be_line}
@@ -215,9 +215,9 @@ module _ (b : BenchView) (text body : List ℕ) (k : ℕ) (m : Message) (past : 
         ∙ ap (λ (x : Message). step_of b.graph (number_for b x) state x) d.of
 
     -- and has the line
-    pub advances : (tail : List ℕ) → IsBench c → (stamp : ℕ) → stamp ≡ next_stamp state m
-        → Compares text past stamp step tail → Advances b text tail c
-    advances tail bench stamp next same =
+    pub advances : (tail : List ℕ) → (stamp : ℕ) → stamp ≡ next_stamp state m → Compares text past stamp step tail
+        → Advances b text tail c
+    advances tail stamp next same =
         let v = d.event in
         let stamps : BeginsAt text v.stamp = subst (λ n. BeginsAt text n) (next ∙ sym stamp_is) same.stamp_is in
         let elements : BeginsAt (behind text) v.element = subst (λ n. BeginsAt (behind text) n) (sym own_is) own in
@@ -228,7 +228,6 @@ module _ (b : BenchView) (text body : List ℕ) (k : ℕ) (m : Message) (past : 
           event = v;
           line = is_line v text tail stamps elements bodies;
           follows = d.follows;
-          bench = bench;
           same_graph = d.same_graph;
           same_keeps = d.same_keeps;
           same_count = d.same_count;

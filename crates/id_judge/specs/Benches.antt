@@ -1,5 +1,5 @@
 -- A machine whose messages in flight stand in no order.
-use Rattle.std.specs.Prelude.{◌≡◌, ◌≢◌, ℕ, ◌-◌, IsTrue, Option, None, Some, List, [], ◌∷◌}
+use Rattle.std.specs.Prelude.{◌≡◌, ◌≢◌, ℕ, ◌-◌, IsTrue, Option, None, Some, List, ◌∷◌}
 use Rattle.std.specs.Prelude.{◌++◌, length, slice_get}
 use Rattle.id_instr.specs.Graph.{Parts}
 use Rattle.id_tag.specs.declared.Message.{Message}
@@ -9,30 +9,23 @@ use Rattle.id_record.specs.declared.step.Step.{Step}
 use Rattle.id_core.specs.Events.{EventView}
 use Rattle.id_core.specs.Replays.{ElementView}
 use Rattle.id_core.specs.Steps.{is_ended}
-use Rattle.id_core.specs.Machines.{IsMachine, World, world_of}
+use Rattle.id_core.specs.Machines.{World, world_of}
 use Rattle.id_runs.specs.Legal.{InSomeOrder}
 use Rattle.id_judge.specs.declared.verdict.Cause.{Cause}
 use Rattle.id_judge.specs.declared.verdict.Cause.TheVariants.{NotInFlight, OtherElement, NoStamp, OtherStamp}
 use Rattle.id_judge.specs.declared.verdict.Cause.TheVariants.{OtherOutcome, NoLine}
 use Rattle.id_judge.specs.Verdicts.{Follows}
 
--- the graph, how much the elements keep of their events, the elements, what is in flight, and what was sent and is not
--- yet in flight
+-- the graph, how much the elements keep of their events, the elements, and what is in flight
 pub record BenchView : Type 0 where
   pub graph : Parts
   pub keeps : Keeps
   pub elements : List ElementView
   pub flight : List Message
-  pub sent : List Message
 
 -- its state
 abbrev pub world_in : BenchView → World
 world_in b = world_of b.elements b.flight
-
--- it is a machine whose elements keep so much, and all that was sent is in flight
-pub record IsBench (b : BenchView) : Type 0 where
-  pub machine : IsMachine b.graph b.keeps b.elements b.flight
-  pub none : b.sent ≡ []
 
 -- the number of the element that a message is for
 abbrev pub number_for : BenchView → Message → ℕ
@@ -43,10 +36,10 @@ abbrev pub IsEnded : BenchView → Message → Type 0
 IsEnded b m = (e : ElementView) × (slice_get b.elements (number_for b m) ≡ Some e) × IsTrue (is_ended e.state m)
 
 -- the message left what is in flight, where what was sent stands behind the others
-pub record Replaces (m : Message) (b c : BenchView) : Type 0 where
+pub record Replaces (m : Message) (old sent new : List Message) : Type 0 where
   pub others : List Message
-  pub out : InSomeOrder b.flight (m ∷ others)
-  pub flight : c.flight ≡ others ++ b.sent
+  pub out : InSomeOrder old (m ∷ others)
+  pub flight : new ≡ others ++ sent
 
 -- this is the last event that the element of a message has recorded
 pub record IsLast (b : BenchView) (m : Message) (v : EventView) : Type 0 where

@@ -11,9 +11,8 @@ use Rattle.id_judge.specs.Benches.{BenchView}
 -- a machine at work as the tuple of its fields
 abbrev pub coded_bench : Coded BenchView
 coded_bench =
-    code_by (Parts × (Keeps × (List ElementView × (List Message × List Message))))
-    (coded× coded_graph (coded× coded_keeps (coded× (coded_list coded_element)
-    (coded× (coded_list coded_message) (coded_list coded_message)))))
-    (λ b. (b.graph, (b.keeps, (b.elements, (b.flight, b.sent)))))
-    (λ p. record { graph = p.0; keeps = p.1.0; elements = p.1.1.0; flight = p.1.1.1.0; sent = p.1.1.1.1 })
+    code_by (Parts × (Keeps × (List ElementView × List Message)))
+    (coded× coded_graph (coded× coded_keeps (coded× (coded_list coded_element) (coded_list coded_message))))
+    (λ b. (b.graph, (b.keeps, (b.elements, b.flight))))
+    (λ p. record { graph = p.0; keeps = p.1.0; elements = p.1.1.0; flight = p.1.1.1 })
     (λ _. refl)

@@ -10,7 +10,7 @@ use Rattle.id_trace.specs.Traces.{trace_text}
 use Rattle.id_judge.specs.declared.judge.Judge.{Judge}
 use Rattle.id_judge.specs.declared.verdict.Cause.{Cause}
 use Rattle.id_judge.specs.declared.verdict.Cause.TheVariants.{NoLine}
-use Rattle.id_judge.specs.Benches.{IsBench, world_in}
+use Rattle.id_judge.specs.Benches.{world_in}
 use Rattle.id_judge.specs.Ends.{IsEnough, IsOfLines, is_line}
 use Rattle.id_judge.specs.Lines.{AreSmall, AreStamps, IsFirstLine}
 
@@ -28,10 +28,9 @@ pub record IsRead (g : Parts) (vs : List Constant) (count : ℕ) (text rest : Li
   pub lead : LeadTo g count (start g vs count) events w
   pub small : IsSmallFrom g count (start g vs count) events
 
--- the judge can read on: its machine is one, and it has the last stamps of its elements
-pub record IsReady (j : Judge) : Type 0 where
-  pub bench : IsBench j.bench
-  pub stamps : AreStamps j.stamps.items (world_in j.bench)
+-- the judge can read on: it has the last stamps of its elements
+abbrev pub IsReady : Judge → Type 0
+IsReady j = AreStamps j.stamps.items (world_in j.bench)
 
 -- it judges traces of so many elements of the graph, which keep so much of their events
 pub record JudgesOn (g : Parts) (count : ℕ) (keeps : Keeps) (j : Judge) : Type 0 where

@@ -25,7 +25,7 @@ use Rattle.id_judge.specs.declared.verdict.Verdict.{Verdict}
 use Rattle.id_judge.specs.declared.verdict.Verdict.TheVariants.{Legal, CannotFollow}
 use Rattle.id_judge.specs.Verdicts.{Follows}
 use Rattle.id_judge.specs.Ends.{is_line}
-use Rattle.id_judge.specs.Benches.{BenchView, IsBench, world_in}
+use Rattle.id_judge.specs.Benches.{BenchView, world_in}
 
 -- the text begins with the other one
 pub record Begins (text front : List ℕ) : Type 0 where
@@ -173,7 +173,6 @@ pub record Advances (b : BenchView) (text tail : List ℕ) (c : BenchView) : Typ
   pub event : EventView
   pub line : text ≡ line_text event ++ tail
   pub follows : Follows b.graph (length b.elements) (world_in b) event (world_in c)
-  pub bench : IsBench c
   pub same_graph : c.graph ≡ b.graph
   pub same_keeps : c.keeps ≡ b.keeps
   pub same_count : length c.elements ≡ length b.elements

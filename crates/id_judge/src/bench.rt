@@ -1,14 +1,15 @@
 //! A machine whose messages in flight stand in no order.
 
-ghost use Rattle.std.specs.Prelude.{◌≡◌, ◌<◌, ◌≤◌, ◌++◌, [], length, map, replicate, slice_get};
+ghost use Rattle.std.specs.Prelude.{◌≡◌, ◌<◌, ◌++◌, [], All, length, slice_get};
 ghost use Rattle.std.specs.Prelude.{Some, None, Ok, Err, IfOk, IfSome, OnOk};
+ghost use Rattle.id_instr.specs.Graph.{Parts};
 ghost use Rattle.id_step.specs.declared.step.TakeError.TheVariants.{StampEnd};
-ghost use Rattle.id_step.specs.Steps.{fresh};
+ghost use Rattle.id_step.specs.Fits.{Fits};
 ghost use Rattle.id_record.specs.declared.kept.Keeps.TheVariants as kept;
-ghost use Rattle.id_core.specs.Machines.{AllKeep, AreElements, start};
+ghost use Rattle.id_core.specs.Machines.{start};
 ghost use Rattle.id_record.specs.Events.{EventView};
 ghost use Rattle.id_tag.specs.declared.Message.{Message};
-ghost use Rattle.id_judge.specs.Benches.{Delivers, Differs, IsBench, IsEnded, IsLast, Replaces};
+ghost use Rattle.id_judge.specs.Benches.{Delivers, Differs, IsEnded, IsLast, Replaces};
 ghost use Rattle.id_judge.specs.Benches.{world_in};
 ghost use Rattle.id_judge.specs.Lines.{AreSmall};
 ghost use Rattle.id_judge.specs.Verdicts.{Follows, IsCause, told};
@@ -16,7 +17,9 @@ ghost use Rattle.id_judge.specs.Verdicts.{Follows, IsCause, told};
 use crate::given::{Given, is_given};
 use crate::pool::Pool;
 use crate::verdict::Cause;
-use id_core::{Element, Event, Keeps, Machine, Start, Step, TakeError, start_flight};
+use id_core::{
+    Count, Element, Event, Keeps, Machine, Start, Step, TakeError, fresh_elements, start_flight,
+};
 use id_flight::Queue;
 use id_tag::{Message, route};
 use id_valid::Valid;
@@ -24,6 +27,8 @@ use std::alloc::{AllocError, Global};
 use std::marker::Model;
 
 /// The elements of a machine, what is in flight, and room for what an event sends.
+///
+/// Keeps: it is a machine, and all that was sent is in flight.
 #[derive(Drop)]
 pub struct Bench<'a> {
     graph: &'a Valid,
@@ -34,6 +39,8 @@ pub struct Bench<'a> {
 }
 
 impl<'a> Model for Bench<'a> {
+    ghost use Rattle.std.specs.Prelude.{◌≡◌, []};
+    ghost use Rattle.id_core.specs.Machines.{IsMachine};
     ghost use Rattle.id_judge.specs.Benches.{BenchView};
     ghost use Rattle.id_judge.specs.Codes.{coded_bench};
 
@@ -46,24 +53,23 @@ impl<'a> Model for Bench<'a> {
       keeps = b.keeps;
       elements = b.elements.items;
       flight = b.flight;
-      sent = b.sent.messages;
     } };
+
+    ghost invariant = { λ b. IsMachine b.graph.now b.keeps b.elements.items b.flight × (b.sent.messages ≡ []) };
 }
 
 /// The machine of so many elements at its start, each of which keeps so much of its events.
 pub fn start_bench<'a>(
     alloc: Global,
     from: Start<'a, '_>,
-    count: u32,
+    count: Count,
     keeps: Keeps,
 ) -> Result<Bench<'a>, AllocError>
-    requires at_least_one { 0 < count }
-    requires at_most_64 { count ≤ 64 }
-    ensures bench { IfOk result IsBench }
     ensures graph { IfOk result (λ b. b.graph ≡ from.entry.graph.now) }
     ensures keeps { IfOk result (λ b. b.keeps ≡ keeps) }
-    ensures count { IfOk result (λ b. length b.elements ≡ count) }
-    ensures world { IfOk result (λ b. world_in b ≡ start from.entry.graph.now from.entry.inputs.now.values count) }
+    ensures count { IfOk result (λ b. length b.elements ≡ count.number) }
+    ensures world { IfOk result
+        (λ b. world_in b ≡ start from.entry.graph.now from.entry.inputs.now.values count.number) }
 {
     let elements = fresh_elements(alloc, from.graph, count, keeps)?;
     let mut sent = start_flight(alloc, from)?;
@@ -78,78 +84,56 @@ pub fn start_bench<'a>(
     })
 }
 
-/// The elements at the start, each of which keeps so much of its events.
-fn fresh_elements<'a>(
-    alloc: Global,
-    graph: &'a Valid,
-    count: u32,
-    keeps: Keeps,
-) -> Result<Vec<Element<'a>>, AllocError>
-    requires at_least_one { 0 < count }
-    requires at_most_64 { count ≤ 64 }
-    ensures len { IfOk result (λ es. length es.items ≡ count) }
-    ensures elements { IfOk result (λ es. AreElements graph.now count es.items) }
-    ensures kept { IfOk result (λ es. AllKeep keeps es.items) }
-    ensures states { IfOk result (λ es. map (λ e. e.state) es.items ≡ replicate count fresh) }
-{
-    let mut elements = Vec::with_capacity(alloc, count as usize)?;
-    for number in 0..count {
-        elements.push_reserved(Element::keeping(alloc, number, count, graph, keeps));
-    }
-    Ok(elements)
-}
-
-/// Moves what was sent to what is in flight.
+/// Moves what was sent to what is in flight: where memory is wanting, what of it there is memory for.
 fn send(flight: &mut Pool, sent: &mut Queue) -> Result<(), AllocError>
     ensures flight { OnOk result (flight.new ≡ flight.old ++ sent.old.messages) }
-    ensures sent { OnOk result (sent.new.messages ≡ []) }
+    ensures sent { sent.new.messages ≡ [] }
+    ensures fit { (g : Parts) → All (Fits g) flight.old → All (Fits g) sent.old.messages → All (Fits g) flight.new }
 {
-    while !sent.is_empty() {
-        let message = sent.message(0);
-        flight.add(message)?;
-        sent.remove(0);
+    let mut is_lost = false;
+    while let Some(message) = sent.pop_front() {
+        if flight.add(message).is_err() {
+            is_lost = true;
+        }
+    }
+    if is_lost {
+        return Err(AllocError);
     }
     Ok(())
 }
 
 /// Takes out the message at a position, and moves what was sent to what is in flight.
-fn replace(bench: &mut Bench<'_>, position: usize) -> Result<(), AllocError>
-    requires { position < length bench.old.flight }
-    ensures graph { bench.new.graph ≡ bench.old.graph }
-    ensures keeps { bench.new.keeps ≡ bench.old.keeps }
-    ensures elements { bench.new.elements ≡ bench.old.elements }
-    ensures flight { OnOk result ((m : Message) → slice_get bench.old.flight position ≡ Some m
-        → Replaces m bench.old bench.new) }
-    ensures sent { OnOk result (bench.new.sent ≡ []) }
+fn replace(flight: &mut Pool, position: usize, sent: &mut Queue) -> Result<(), AllocError>
+    requires { position < length flight.old }
+    ensures replaces { OnOk result ((m : Message) → slice_get flight.old position ≡ Some m
+        → Replaces m flight.old sent.old.messages flight.new) }
+    ensures sent { sent.new.messages ≡ [] }
+    ensures fit { (g : Parts) → All (Fits g) flight.old → All (Fits g) sent.old.messages → All (Fits g) flight.new }
 {
-    bench.flight.take(position)?;
-    send(&mut bench.flight, &mut bench.sent)
+    flight.take(position);
+    send(flight, sent)
 }
 
 /// Delivers the message at a position, and answers what it came to: it leaves, its element handles it, and what is sent
 /// is in flight.
 pub fn deliver(bench: &mut Bench<'_>, position: usize, message: &Message) -> Result<Step, TakeError>
-    requires bench { IsBench bench.old }
-    requires there { slice_get bench.old.flight position ≡ Some message.now }
-    ensures bench { OnOk result (IsBench bench.new) }
+    requires { slice_get bench.old.flight position ≡ Some message.now }
     ensures delivers { IfOk result (λ step. Delivers bench.old message.now step bench.new) }
     ensures end { result ≡ Err StampEnd → IsEnded bench.old message.now }
 {
     let number = route(message, bench.elements.len() as u32) as usize;
     match bench.elements[number].take(message, &mut bench.sent) {
-        Ok(step) => match replace(bench, position) {
-            Ok(()) => Ok(step),
-            Err(_) => Err(TakeError::Memory),
-        },
+        Ok(step) => {
+            replace(&mut bench.flight, position, &mut bench.sent)?;
+            Ok(step)
+        }
         Err(error) => Err(error),
     }
 }
 
 /// Lets an event follow, or says why it cannot.
 pub fn follow(bench: &mut Bench<'_>, given: &Given) -> Result<Option<Cause>, AllocError>
-    requires bench { IsBench bench.old }
-    requires keeps { bench.old.keeps ≡ kept.All }
-    ensures bench { result ≡ Ok None → IsBench bench.new }
+    requires { bench.old.keeps ≡ kept.All }
     ensures graph { result ≡ Ok None → bench.new.graph ≡ bench.old.graph }
     ensures keeps { result ≡ Ok None → bench.new.keeps ≡ bench.old.keeps }
     ensures count { result ≡ Ok None → length bench.new.elements ≡ length bench.old.elements }
@@ -175,7 +159,6 @@ pub fn follow(bench: &mut Bench<'_>, given: &Given) -> Result<Option<Cause>, All
 
 /// The last event that the element of a message has recorded.
 fn last_event<'b>(bench: &'b Bench<'_>, message: &Message) -> Event<'b>
-    requires bench { IsBench bench.now }
     requires keeps { bench.now.keeps ≡ kept.All }
     requires recorded { (v : EventView) × IsLast bench.now message.now v }
     ensures { (v : EventView) → IsLast bench.now message.now v → told result ≡ v }
@@ -188,7 +171,6 @@ fn last_event<'b>(bench: &'b Bench<'_>, message: &Message) -> Event<'b>
 /// In what the event that was delivered differs from the one that was given, where they are of the same message and
 /// element.
 fn difference(bench: &Bench<'_>, given: &Given) -> Option<Cause>
-    requires bench { IsBench bench.now }
     requires keeps { bench.now.keeps ≡ kept.All }
     requires recorded { (v : EventView) × IsLast bench.now given.now.message v }
     ensures { (v : EventView) → IsLast bench.now given.now.message v → Differs v given.now result }
@@ -212,7 +194,6 @@ pub fn tell_small(bench: &Bench<'_>)
 
 /// The machine, with what is in flight in the order in which it stands.
 pub fn end_bench<'a>(alloc: Global, bench: Bench<'a>) -> Result<Machine<'a>, AllocError>
-    requires { IsBench bench }
     ensures { IfOk result (λ m. m ≡ record {
       graph = bench.entry.graph;
       count = length bench.entry.elements;

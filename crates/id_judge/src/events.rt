@@ -8,7 +8,7 @@ ghost use Rattle.id_judge.specs.Verdicts.{IsVerdict};
 use crate::bench::{end_bench, follow, start_bench};
 use crate::given::Given;
 use crate::verdict::Verdict;
-use id_core::{Keeps, MAX_ELEMENTS, MachineError, Start};
+use id_core::{Count, Keeps, MachineError, Start};
 use id_source::Inputs;
 use id_valid::Valid;
 use std::alloc::Global;
@@ -26,9 +26,9 @@ pub fn judge_events<'a>(
     ensures verdict { IfOk result (IsVerdict graph.now inputs.now.values count events.now) }
     ensures refused { (result ≡ Err BadElements) ↔ ((count ≡ 0) ⊎ (64 < count)) }
 {
-    if count == 0 || count > MAX_ELEMENTS {
+    let Some(count) = Count::new(count) else {
         return Err(MachineError::BadElements);
-    }
+    };
     let mut bench = start_bench(alloc, Start { graph, inputs }, count, Keeps::All)?;
     let many = events.len();
     for position in 0..many {

@@ -16,7 +16,7 @@ use crate::bench::{Bench, end_bench, start_bench, tell_small};
 use crate::line::{Line, empty_line};
 use crate::lines::{first_stamps, follow_line};
 use crate::verdict::{Cause, Verdict};
-use id_core::{Keeps, MAX_ELEMENTS, Machine, MachineError, Start};
+use id_core::{Count, Keeps, Machine, MachineError, Start};
 use id_source::Inputs;
 use id_valid::Valid;
 use std::alloc::{AllocError, Global};
@@ -49,9 +49,9 @@ impl<'a> Judge<'a> {
         ensures read { IfOk result (HasRead inputs.now.values []) }
         ensures refused { (result ≡ Err BadElements) ↔ ((count ≡ 0) ⊎ (64 < count)) }
     {
-        if count == 0 || count > MAX_ELEMENTS {
+        let Some(count) = Count::new(count) else {
             return Err(MachineError::BadElements);
-        }
+        };
         let bench = start_bench(alloc, Start { graph, inputs }, count, keeps)?;
         tell_small(&bench);
         let stamps = first_stamps(alloc, count)?;
@@ -96,7 +96,6 @@ impl<'a> Judge<'a> {
 
     /// The machine that all lines have come to.
     pub fn end(self, alloc: Global) -> Result<Machine<'a>, AllocError>
-        requires ready { IsReady self }
         ensures { (g : Parts) (vs : List Constant) (count : ℕ) (keeps : Keeps) (text : List ℕ)
             → JudgesOn g count keeps self.entry → HasRead vs text self.entry
             → IfOk result (λ m. IsLineVerdict g vs count keeps text (Legal m self.entry.lines)) }

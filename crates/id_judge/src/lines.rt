@@ -4,24 +4,24 @@ ghost use Rattle.std.specs.Prelude.{◌≡◌, ◌<◌, ◌+◌, ◌-◌, ◌^�
 ghost use Rattle.std.specs.Prelude.{◌||◌};
 ghost use Rattle.std.specs.Prelude.{ℕ, false, max};
 ghost use Rattle.std.specs.Prelude.{IfErr, IfOk, Some, length, set, slice_get, replicate};
-ghost use Rattle.id_judge.specs.Benches.{IsBench, world_in};
+ghost use Rattle.id_judge.specs.Benches.{world_in};
 ghost use Rattle.id_judge.specs.Lines.{Advances, AreStamps, Compares, IsLineCause, IsOther};
 
 use crate::bench::{Bench, deliver};
 use crate::line::{Line, begins_number, behind, past};
 use crate::said::find_said;
 use crate::verdict::Cause;
-use id_core::{Step, TakeError};
+use id_core::{Count, Step, TakeError};
 use id_tag::route;
 use id_trace::end_bytes;
 use std::alloc::{AllocError, Global};
 
 /// The last stamps of so many elements at the start.
-pub fn first_stamps(alloc: Global, count: u32) -> Result<Vec<u64>, AllocError>
-    ensures { IfOk result (λ v. v.items ≡ replicate count 0) }
+pub fn first_stamps(alloc: Global, count: Count) -> Result<Vec<u64>, AllocError>
+    ensures { IfOk result (λ v. v.items ≡ replicate count.number 0) }
 {
-    let mut stamps = Vec::with_capacity(alloc, count as usize)?;
-    for number in 0..count {
+    let mut stamps = Vec::with_capacity(alloc, count.number as usize)?;
+    for number in 0..count.number {
         stamps.push_reserved(0);
     }
     Ok(stamps)
@@ -35,8 +35,7 @@ pub fn follow_line<'t>(
     line: &mut Line,
     text: &'t [u8],
 ) -> Result<Result<&'t [u8], Cause>, AllocError>
-    requires bench { IsBench bench.old }
-    requires stamps { AreStamps stamps.old.items (world_in bench.old) }
+    requires { AreStamps stamps.old.items (world_in bench.old) }
     ensures follows { IfOk result (λ r. IfOk r (λ tail. Advances bench.old text.now tail.now bench.new)) }
     ensures stamps { IfOk result (λ r. IfOk r (λ tail. AreStamps stamps.new.items (world_in bench.new))) }
     ensures cause { IfOk result (λ r. IfErr r

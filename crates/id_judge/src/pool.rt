@@ -31,7 +31,7 @@ impl Model for Pool {
 
 impl Pool {
     ghost use Rattle.std.specs.Prelude.{◌≡◌, ◌<◌, ◌++◌, ◌∷◌, [], length, slice_get};
-    ghost use Rattle.std.specs.Prelude.{Some, IfNone, IfSome, OnOk};
+    ghost use Rattle.std.specs.Prelude.{Some, IfNone, IfSome, OnOk, OnErr};
     ghost use Rattle.id_value.specs.List.{Among};
     ghost use Rattle.id_runs.specs.Legal.{InSomeOrder};
     ghost use Rattle.id_tag.specs.declared.Message.{Message};
@@ -62,15 +62,23 @@ impl Pool {
         self.messages[position]
     }
 
-    /// Adds a message at the end.
+    /// Adds a message at the end. After an error nothing has changed.
     pub fn add(&mut self, message: Message) -> Result<(), AllocError>
-        ensures { OnOk result (self.new ≡ self.old ++ message ∷ []) }
+        ensures ok { OnOk result (self.new ≡ self.old ++ message ∷ []) }
+        ensures err { OnErr result (self.new ≡ self.old) }
     {
         let place = self.messages.len();
         tell_small(&message.payload);
         self.messages.push(message)?;
-        self.places.insert(name_of(&message.payload), place)?;
+        self.note(&message, place);
         Ok(())
+    }
+
+    // Notes where a message was put, where there is memory for that.
+    fn note(&mut self, message: &Message, place: usize)
+        ensures { self.new ≡ self.old }
+    {
+        let _ = self.places.insert(name_of(&message.payload), place);
     }
 
     /// Tells that the numbers of each tag are those that a machine has. Does nothing.
@@ -129,18 +137,16 @@ impl Pool {
     }
 
     /// Takes out the message at a position: the last one stands there then.
-    pub fn take(&mut self, position: usize) -> Result<(), AllocError>
+    pub fn take(&mut self, position: usize)
         requires { position < length self.old }
-        ensures { OnOk result ((m : Message) → slice_get self.old position ≡ Some m
-            → InSomeOrder self.old (m ∷ self.new)) }
+        ensures { (m : Message) → slice_get self.old position ≡ Some m → InSomeOrder self.old (m ∷ self.new) }
     {
         let taken = self.messages.swap_remove(position);
         self.places.swap_remove(&name_of(&taken.payload));
         if position < self.messages.len() {
             let moved = self.messages[position];
-            self.places.insert(name_of(&moved.payload), position)?;
+            self.note(&moved, position);
         }
-        Ok(())
     }
 }
 

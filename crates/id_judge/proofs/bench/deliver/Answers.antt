@@ -1,72 +1,81 @@
 -- The message was handled by its element, and what that sent is in flight in its place; or no stamp was left.
-use Rattle.std.proofs.Common.{◌≡◌, ◌<◌, ◌++◌, Some, get_or, length, set, slice_get, ap, subst, ◌∙◌}
+use Rattle.std.proofs.Common.{◌≡◌, ◌<◌, Some, length, slice_get, refl, sym, ap, subst, ◌∙◌}
+use Rattle.std.proofs.lemmas.Option.{slice_get_read}
 use Rattle.id_tag.specs.Routes.{route_of}
-use Rattle.id_core.specs.Steps.{is_ended, outputs_of}
-use Rattle.id_core.proofs.MachinesLemmas.{taken}
+use Rattle.id_core.specs.Steps.{is_ended}
+use Rattle.id_core.proofs.MachinesLemmas.{IsGiven, is_for}
 use Rattle.id_step.specs.declared.step.TakeError.TheVariants.{StampEnd}
-use Rattle.id_judge.specs.Benches.{BenchView, Delivers, IsBench, number_for}
-use Rattle.id_judge.proofs.DeliverLemmas.{done, element_there, left_ok, other_err}
+use Rattle.id_judge.specs.Benches.{BenchView, Delivers, IsEnded}
+use Rattle.id_judge.proofs.DeliverLemmas.{done, left_ok, machine_after, other_err, sent_fit}
 use Rattle.id_judge.proofs.bench.deliver.Goals as goal
 use Rattle.id_judge.proofs.bench.deliver.Goals.{After-index_mut}
 
-there : (c : After-index_mut)
-    → slice_get c.args.bench.now.elements (number_for c.args.bench.now c.args.message.now) ≡ Some c.index_mut.result.now
-there c =
-    let b = c.args.bench.now in
+-- the element is given the message at the position
+given : (c : After-index_mut)
+    → IsGiven c.bench.inside.graph.now (length c.bench.inside.elements.items) c.bench.inside.elements.items
+    c.bench.inside.flight c.args.position c.route-number.result c.args.message.now c.index_mut.result.now
+given c =
     let es = c.bench.inside.elements.items in
-    let same : es ≡ b.elements = ap (λ (v : BenchView). v.elements) c.bench.view_is in
-    let many : c.len.result ≡ length b.elements =
-    c.len.ensures ∙ c.bench.inside.elements.ok.0 ∙ ap (λ xs. length xs) same in
-    let below : c.route-number.result < length b.elements =
+    let many : c.len.result ≡ length es = c.len.ensures ∙ c.bench.inside.elements.ok.0 in
+    let below : c.route-number.result < length es =
     subst (λ n. c.route-number.result < n) many c.route-number.ensures.below in
-    element_there b c.args.message.now c.route-number.result c.index_mut.result.now
-    (c.route-number.ensures.exact ∙ ap (route_of c.args.message.now.payload) many) below
-    (c.index_mut.ensures.value ∙ ap (λ xs. get_or xs c.route-number.result c.index_mut.result.now) same)
+    record {
+      there = ap (λ (v : BenchView). slice_get v.flight c.args.position) c.bench.view_is ∙ c.requires;
+      routed = sym (c.route-number.ensures.exact ∙ ap (route_of c.args.message.now.payload) many);
+      element = slice_get_read es _ _ _ refl below c.index_mut.ensures.value;
+    }
 
-number_is : (c : After-index_mut) → c.route-number.result ≡ number_for c.args.bench.now c.args.message.now
-number_is c =
-    c.route-number.ensures.exact
-    ∙ ap (route_of c.args.message.now.payload)
-    (c.len.ensures ∙ c.bench.inside.elements.ok.0 ∙ ap (λ (v : BenchView). length v.elements) c.bench.view_is)
+pub take-requires : goal.take-requires
+take-requires c = is_for (given (goal.at.take-requires c).After-index_mut) c.bench.invariant.0
 
-both : (c : goal.In-Ok-replace)
-    → IsBench c.replace.new.bench × Delivers c.args.bench.now c.args.message.now c.in-Ok.step c.replace.new.bench
-both c =
-    let a = (goal.at.returns-in-Ok-replace-clause-bench c).After-index_mut in
-    let b = c.args.bench.now in
+pub invariant_of-bench : goal.invariant_of-bench
+invariant_of-bench c =
+    let g = given (goal.at.invariant_of-bench c).After-index_mut in
+    let old = c.bench.invariant.0 in
+    let fit = c.replace.ensures.fit c.bench.inside.graph.now old.flight_fits
+    (sent_fit g old c.take.new.self _ _ c.in-Ok.step c.bench.invariant.1 c.in-Ok.ensures) in
+    (machine_after g old c.take.new.self _ _ _ _ c.in-Ok.ensures fit, c.replace.ensures.sent)
+
+pub invariant_of-bench-in_err-replace : goal.invariant_of-bench-in_err-replace
+invariant_of-bench-in_err-replace c =
+    let g = given (goal.at.invariant_of-bench-in_err-replace c).After-index_mut in
+    let old = c.bench.invariant.0 in
+    let fit = c.replace.ensures.fit c.bench.inside.graph.now old.flight_fits
+    (sent_fit g old c.take.new.self _ _ c.in-Ok.step c.bench.invariant.1 c.in-Ok.ensures) in
+    (machine_after g old c.take.new.self _ _ _ _ c.in-Ok.ensures fit, c.replace.ensures.sent)
+
+pub invariant_of-bench-in-Err : goal.invariant_of-bench-in-Err
+invariant_of-bench-in-Err c =
+    let g = given (goal.at.invariant_of-bench-in-Err c).After-index_mut in
+    let old = c.bench.invariant.0 in (
+      machine_after g old c.take.new.self _ _ _ _ c.in-Err.ensures old.flight_fits,
+      c.in-Err.ensures.becomes.same ∙ c.bench.invariant.1,
+    )
+
+pub returns-in-Ok-clause-delivers : goal.returns-in-Ok-clause-delivers
+returns-in-Ok-clause-delivers c =
+    let g = given (goal.at.returns-in-Ok-clause-delivers c).After-index_mut in
     let m = c.args.message.now in
     let e = c.index_mut.result.now in
     let h = c.in-Ok.ensures in
-    let r = c.in-Ok-replace.ensures in
-    let mid : BenchView = record {
+    let r = c.in_ok-replace.ensures in
+    let b : BenchView = record {
       graph = c.bench.inside.graph.now;
       keeps = c.bench.inside.keeps;
-      elements = set c.bench.inside.elements.items c.route-number.result c.take.new.self;
+      elements = c.bench.inside.elements.items;
       flight = c.bench.inside.flight;
-      sent = c.take.new.outputs.messages;
     } in
-    let flight : mid.flight ≡ b.flight = ap (λ (v : BenchView). v.flight) c.bench.view_is in
-    let sent : mid.sent ≡ b.sent ++ outputs_of e.graph e.number e.state m =
-    h.becomes.outputs ∙ ap (λ (v : BenchView). v.sent ++ outputs_of e.graph e.number e.state m) c.bench.view_is in
-    let at : slice_get mid.flight c.args.position ≡ Some m =
-    ap (λ ms. slice_get ms c.args.position) flight ∙ c.requires.there in
-    let elements : c.replace.new.bench.elements ≡ set b.elements (number_for b m) (taken e m) =
-    r.elements ∙ (λ i. set (c.bench.view_is i).elements (number_is a i) (h.becomes.element i)) in
-    done b c.requires.bench c.args.position m c.requires.there e (there a)
-    (left_ok c.in-Ok.step StampEnd (is_ended e.state m) h.ended)
-    h.fits mid c.replace.new.bench flight sent (r.flight m at) (r.graph
-    ∙ ap (λ (v : BenchView). v.graph) c.bench.view_is)
-    (r.keeps ∙ ap (λ (v : BenchView). v.keeps) c.bench.view_is) elements r.sent c.in-Ok.step h.becomes.step
-
-pub returns-in-Ok-replace-clause-bench : goal.returns-in-Ok-replace-clause-bench
-returns-in-Ok-replace-clause-bench c = (both c).0
-
-pub returns-in-Ok-replace-clause-delivers : goal.returns-in-Ok-replace-clause-delivers
-returns-in-Ok-replace-clause-delivers c = (both c).1
+    let element = subst (λ n. slice_get b.elements n ≡ Some e) (sym g.routed) g.element in
+    subst (λ (v : BenchView). Delivers v m c.in-Ok.step _) c.bench.view_is
+    (done b c.bench.invariant.0 c.args.position m g.there e element
+    (left_ok c.in-Ok.step StampEnd (is_ended e.state m) h.ended) _ _ _
+    c.bench.invariant.1 h.becomes.outputs (r.replaces m g.there) refl refl _ c.in-Ok.step h.becomes.step)
 
 pub returns-in-Err-clause-end : goal.returns-in-Err-clause-end
-returns-in-Err-clause-end c = λ is. (
-  c.index_mut.result.now,
-  there (goal.at.returns-in-Err-clause-end c).After-index_mut,
-  c.in-Err.ensures.ended.0 (other_err c.in-Err.error StampEnd is),
-)
+returns-in-Err-clause-end c =
+    let g = given (goal.at.returns-in-Err-clause-end c).After-index_mut in
+    λ is. subst (λ (v : BenchView). IsEnded v c.args.message.now) c.bench.view_is (
+      c.index_mut.result.now,
+      subst (λ n. slice_get c.bench.inside.elements.items n ≡ Some c.index_mut.result.now) (sym g.routed) g.element,
+      c.in-Err.ensures.ended.0 (other_err c.in-Err.error StampEnd is),
+    )

@@ -4,4 +4,5 @@ use Rattle.id_judge.proofs.lines.first_stamps.Given as goal
 
 abbrev pub invariant-loop-number : goal.invariant-loop-number
 invariant-loop-number l =
-    (l.stamps.items ≡ replicate l.number 0) × (vec_len l.stamps ≡ l.number) × (l.count ≤ vec_capacity l.stamps)
+    (l.stamps.items ≡ replicate l.number 0) × (vec_len l.stamps ≡ l.number)
+    × (l.fn.count.number ≤ vec_capacity l.stamps)

@@ -63,7 +63,7 @@ last_at : (c : After-begins_number) (s : State)
 last_at c s element =
     ap (slice_get c.args.stamps.now.items) (route_is c)
     ∙ stamp_at c.args.stamps.now.items (world_in c.args.bench.now) (number_for c.args.bench.now c.in-Some.said.message)
-    s c.requires.stamps element
+    s c.requires element
 
 pub advance-stamp-requires-clause-left : goal.advance-stamp-requires-clause-left
 advance-stamp-requires-clause-left c =
@@ -78,8 +78,8 @@ advance-stamp-requires-clause-left c =
     let d = c.in-Ok.ensures.delivers in
     let e = element_is b text body k m past (here at.In-Some) (found at.In-Some) o c.in-Ok.step c.deliver.new.bench d in
     let l = left_is b text body k m past (here at.In-Some) (found at.In-Some) o c.in-Ok.step c.deliver.new.bench d in
-    left_at c.args.stamps.now.items (world_in b) (number_for b m) c.route-number.result d.follows.can.state m
-    c.requires.stamps e l
+    left_at c.args.stamps.now.items (world_in b) (number_for b m) c.route-number.result d.follows.can.state m c.requires
+    e l
     (route_is at.After-begins_number)
 
 pub returns-in-Ok-clause-follows : goal.returns-in-Ok-clause-follows
@@ -101,8 +101,7 @@ returns-in-Ok-clause-follows c =
     if_ok_more (λ (tail : Bor (List ℕ)). Compares text past stamp c.in-Ok.step tail.now)
     (λ tail. Advances b text tail.now new) c.compare.result
     (λ tail same.
-    advances b text body k m past (here at.In-Some) (found at.In-Some) o c.in-Ok.step new d tail.now
-    c.in-Ok.ensures.bench stamp next same)
+    advances b text body k m past (here at.In-Some) (found at.In-Some) o c.in-Ok.step new d tail.now stamp next same)
     c.compare.ensures.same
 
 pub returns-in-Ok-clause-stamps : goal.returns-in-Ok-clause-stamps
@@ -122,8 +121,8 @@ returns-in-Ok-clause-stamps c =
     c.advance-stamp.ensures.next d.follows.can.state.stamp (last_at at.After-begins_number d.follows.can.state e) in
     let are : AreStamps c.advance-stamp.new.stamps.items (world_in new) =
     c.advance-stamp.ensures.stamps ∙ ap (λ j. set xs j stamp) (route_is at.After-begins_number)
-    ∙ stamps_after b.graph (length b.elements) (world_in b) (world_in new) d.event xs m stamp d.follows d.of
-    c.requires.stamps next in
+    ∙ stamps_after b.graph (length b.elements) (world_in b) (world_in new) d.event xs m stamp d.follows d.of c.requires
+    next in
     if_ok_all _ c.compare.result (λ tail. are)
 
 pub returns-in-Ok-clause-cause : goal.returns-in-Ok-clause-cause

@@ -9,12 +9,9 @@ use Rattle.id_judge.proofs.judge.Judge.new.Goals as goal
 pub returns-clause-ready : goal.returns-clause-ready
 returns-clause-ready c =
     let h = c.in_ok-bench.ensures in
-    let b = c.in_ok-bench.bench in record {
-      bench = h.bench;
-      stamps =
-          stamps_first c.args.count c.in_ok-stamps.stamps.items (world_in b) c.in_ok-stamps.ensures
-          (ap (λ (w : World). w.elements) h.world);
-    }
+    let b = c.in_ok-bench.bench in
+    stamps_first _ c.in_ok-stamps.stamps.items (world_in b) c.in_ok-stamps.ensures
+    (ap (λ (w : World). w.elements) h.world)
 
 pub returns-clause-read : goal.returns-clause-read
 returns-clause-read c =
@@ -22,5 +19,5 @@ returns-clause-read c =
     let b = c.in_ok-bench.bench in
     let g = c.args.graph.now in
     let vs = c.args.inputs.now.values in
-    read_as g b.graph vs c.args.count (length b.elements) [] 0 0 (world_in b) h.graph h.count refl
-    (read_none g vs c.args.count [] (world_in b) h.world c.tell_small.ensures)
+    read_as g b.graph vs _ (length b.elements) [] 0 0 (world_in b) h.graph h.count refl
+    (read_none g vs _ [] (world_in b) h.world c.tell_small.ensures)

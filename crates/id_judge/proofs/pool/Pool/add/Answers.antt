@@ -4,11 +4,6 @@ use Rattle.id_judge.specs.Lines.{AreSmall}
 use Rattle.id_judge.proofs.SmallLemmas.{small_more}
 use Rattle.id_judge.proofs.pool.Pool.add.Goals as goal
 
-pub invariant_of-self-in_err-insert : goal.invariant_of-self-in_err-insert
-invariant_of-self-in_err-insert c =
-    subst AreSmall (sym c.in_ok-push.ensures.items)
-    (small_more c.self.inside.messages.items c.args.message c.self.invariant c.tell_small.ensures)
-
 pub invariant_of-self-2 : goal.invariant_of-self-2
 invariant_of-self-2 c =
     subst AreSmall (sym c.in_ok-push.ensures.items)
