@@ -1,5 +1,5 @@
 -- The message was handled by its element, and what that sent is in flight in its place; or no stamp was left.
-use Rattle.std.proofs.Common.{◌≡◌, ◌<◌, Some, length, slice_get, refl, sym, ap, subst, ◌∙◌}
+use Rattle.std.proofs.Common.{◌≡◌, ◌<◌, Some, length, set, slice_get, refl, sym, ap, subst, ◌∙◌}
 use Rattle.std.proofs.lemmas.Option.{slice_get_read}
 use Rattle.id_tag.specs.Routes.{route_of}
 use Rattle.id_core.specs.Steps.{is_ended}
@@ -36,9 +36,9 @@ invariant_of-bench c =
     (sent_fit g old c.take.new.self _ _ c.in-Ok.step c.bench.invariant.1 c.in-Ok.ensures) in
     (machine_after g old c.take.new.self _ _ _ _ c.in-Ok.ensures fit, c.replace.ensures.sent)
 
-pub invariant_of-bench-in_err-replace : goal.invariant_of-bench-in_err-replace
-invariant_of-bench-in_err-replace c =
-    let g = given (goal.at.invariant_of-bench-in_err-replace c).After-index_mut in
+pub invariant_of-bench-in-Ok : goal.invariant_of-bench-in-Ok
+invariant_of-bench-in-Ok c =
+    let g = given (goal.at.invariant_of-bench-in-Ok c).After-index_mut in
     let old = c.bench.invariant.0 in
     let fit = c.replace.ensures.fit c.bench.inside.graph.now old.flight_fits
     (sent_fit g old c.take.new.self _ _ c.in-Ok.step c.bench.invariant.1 c.in-Ok.ensures) in
@@ -52,24 +52,31 @@ invariant_of-bench-in-Err c =
       c.in-Err.ensures.becomes.same ∙ c.bench.invariant.1,
     )
 
-pub returns-in-Ok-clause-delivers : goal.returns-in-Ok-clause-delivers
-returns-in-Ok-clause-delivers c =
-    let g = given (goal.at.returns-in-Ok-clause-delivers c).After-index_mut in
+pub returns-in_ok-replace-in-Ok-clause-delivers : goal.returns-in_ok-replace-in-Ok-clause-delivers
+returns-in_ok-replace-in-Ok-clause-delivers c =
+    let g = given (goal.at.returns-in_ok-replace-in-Ok-clause-delivers c).After-index_mut in
     let m = c.args.message.now in
     let e = c.index_mut.result.now in
     let h = c.in-Ok.ensures in
-    let r = c.in_ok-replace.ensures in
+    let r = c.in_ok-replace-in-Ok.ensures in
     let b : BenchView = record {
       graph = c.bench.inside.graph.now;
       keeps = c.bench.inside.keeps;
       elements = c.bench.inside.elements.items;
       flight = c.bench.inside.flight;
     } in
+    let new : BenchView = record {
+      graph = c.bench.inside.graph.now;
+      keeps = c.bench.inside.keeps;
+      elements = set c.bench.inside.elements.items c.route-number.result c.take.new.self;
+      flight = c.replace.new.flight;
+    } in
     let element = subst (λ n. slice_get b.elements n ≡ Some e) (sym g.routed) g.element in
-    subst (λ (v : BenchView). Delivers v m c.in-Ok.step _) c.bench.view_is
+    subst (λ (v : BenchView). Delivers v m c.in-Ok.step new) c.bench.view_is
     (done b c.bench.invariant.0 c.args.position m g.there e element
-    (left_ok c.in-Ok.step StampEnd (is_ended e.state m) h.ended) _ _ _
-    c.bench.invariant.1 h.becomes.outputs (r.replaces m g.there) refl refl _ c.in-Ok.step h.becomes.step)
+    (left_ok c.in-Ok.step StampEnd (is_ended e.state m) h.ended) _ _ new
+    c.bench.invariant.1 h.becomes.outputs (r.replaces m g.there) refl refl
+    (λ i. set c.bench.inside.elements.items (sym g.routed i) (h.becomes.element i)) c.in-Ok.step h.becomes.step)
 
 pub returns-in-Err-clause-end : goal.returns-in-Err-clause-end
 returns-in-Err-clause-end c =
