@@ -15,8 +15,18 @@ use Rattle.id_tag.specs.Routes.{route_of}
 use Rattle.id_tag.specs.declared.Message.{Message}
 use Rattle.id_flight.specs.Queues.{QueueView}
 use Rattle.id_inbox.specs.Hands.{weight_in}
-use Rattle.id_step.specs.Fits.{Fits}
-use Rattle.id_elements.specs.Passing.{AreRouted, IsGoalAt, IsLastMoved, IsLastSent, IsSentOn}
+use Rattle.id_step.specs.Fits.{Fits, IsFor}
+use Rattle.id_step.specs.Replays.{ElementView}
+use Rattle.id_elements.specs.Passing.{AreFor, AreRouted, IsGoalAt, IsLastMoved, IsLastSent, IsSentOn}
+
+-- ---- a message of a letter
+
+-- a message that is for the element comes behind what is for it
+pub for_push : (e : ElementView) (own own' : List Message) (m : Message) → own' ≡ own ++ m ∷ []
+    → route_of m.payload e.count ≡ e.number → Fits e.graph m → AreFor e own → AreFor e own'
+for_push e own own' m is mine fits all =
+    subst (AreFor e) (sym is)
+        (All-push (IsFor e.graph e.count e.number) own m all (record { routed = mine; fits = fits }))
 
 -- ---- lists
 

@@ -37,12 +37,6 @@ pub record IsSentOn (n sent : ℕ) (own back : List Message) (letters : List Que
   pub routed : OnOk r (back ≡ [] → AreRouted (length letters) n (take (length own - sent) own)
       → (back' ≡ []) × AreRouted (length letters) n own')
 
--- the first message of the first list has gone to the end of the second
-pub record IsFirstMoved (from to from' to' : List Message) : Type 0 where
-  pub message : Message
-  pub from_is : from ≡ message ∷ from'
-  pub to_is : to' ≡ to ++ message ∷ []
-
 -- the last message of the first list has gone to the end of the second
 pub record IsLastMoved (from to from' to' : List Message) : Type 0 where
   pub message : Message

@@ -1,6 +1,8 @@
 //! Which element, of so many, a worker's messages are for.
 
 ghost use Rattle.std.specs.Prelude.{◌≡◌, ◌<◌, ◌≤◌, ◌+◌, ◌%◌, ◌^◌, ℕ, length, take, IsTrue};
+ghost use Rattle.id_tag.specs.Plains.{message_of};
+ghost use Rattle.id_tag.specs.Routes.{route_of};
 ghost use Rattle.id_elements.specs.Passing.{AreRouted, IsGoalAt};
 
 use crate::home::{Home, Near};
@@ -57,22 +59,28 @@ pub fn near_of(own: &Queue, position: usize, home: Home) -> Near
     }
 }
 
-/// The element that the message at a position is for. One is given with a sum that is routed to it: most of what an
-/// event sends has the tag of what it took, and so the same sum.
+/// The element that a plain token is for. One is given with a sum that is routed to it: most of what an event sends has
+/// the tag of what it took, and so the same sum.
+#[inline(always)]
+pub fn goal_of(token: &PlainToken, near: Near) -> u32
+    ensures { result ≡ route_of (message_of token.now).payload near.home.count.number }
+{
+    let sum = sum_of(token);
+    if sum == near.sum {
+        near.home.number
+    } else {
+        rest(sum, near.home.count)
+    }
+}
+
+/// The element that the message at a position is for. One is given with a sum that is routed to it.
 #[inline(always)]
 pub fn goal_at(own: &Queue, position: usize, near: Near) -> u32
     requires { position < length own.now.messages }
     ensures { IsGoalAt near.home.count.number own.now.messages position result }
 {
     match own.token(position) {
-        Some(token) => {
-            let sum = sum_of(token);
-            if sum == near.sum {
-                near.home.number
-            } else {
-                rest(sum, near.home.count)
-            }
-        }
+        Some(token) => goal_of(token, near),
         None => route(&own.message(position), near.home.count.number),
     }
 }

@@ -4,12 +4,13 @@ ghost use Rattle.std.specs.Prelude.{◌≡◌, ◌<◌, ◌≤◌, ◌+◌, ◌+
 ghost use Rattle.std.specs.Prelude.{reverse, vec_len, OnOk};
 ghost use Rattle.std.specs.List.{sum_by};
 ghost use Rattle.id_tag.specs.declared.Message.{Message};
-ghost use Rattle.id_elements.specs.Passing.{AreFor, IsFirstMoved, IsLastMoved, IsLastSent, IsSentOn};
+ghost use Rattle.id_elements.specs.Passing.{AreFor, IsLastMoved, IsLastSent, IsSentOn};
 
-use crate::goals::{first_for_others, goal_at};
+use crate::goals::{first_for_others, goal_at, goal_of};
 use crate::home::{Home, Near};
 use id_flight::Queue;
-use id_step::{Element, fits};
+use id_step::{Element, fits, fits_plain};
+use id_tag::route;
 use std::alloc::AllocError;
 
 /// Moves the messages of a letter that came out of an element's inbox: to its own, where they are for the element and
@@ -38,7 +39,8 @@ pub fn sort(
     Ok(())
 }
 
-/// Moves the first message of a letter. There is room for it. Takes no memory.
+/// Moves the first message of a letter: in few steps where it is a plain token for the element. There is room for it.
+/// Takes no memory.
 #[inline(always)]
 fn sort_first(
     own: &mut Queue,
@@ -58,29 +60,43 @@ fn sort_first(
         ≡ sum_by f own.old.messages + sum_by f stray.old.messages + sum_by f letter.old.messages }
     ensures shorter { length letter.new.messages < length letter.old.messages }
 {
-    let message = letter.message(0);
-    let to = goal_at(letter, 0, home.near());
-    if to == home.number && fits(element.graph(), &message) {
-        move_first(letter, own);
-    } else {
-        stray.push_back_reserved(message);
-        letter.remove(0);
+    if let Some(token) = letter.token(0) {
+        if goal_of(token, home.near()) == home.number && fits_plain(element.graph(), token) {
+            own.push_plain_reserved(token);
+            letter.remove(0);
+            return;
+        }
     }
+    sort_message(own, stray, element, home, letter);
 }
 
-/// Moves the first message of a list, which is there, to the end of another, in which there is room for it. Takes no
-/// memory.
-#[inline(always)]
-fn move_first(from: &mut Queue, to: &mut Queue)
-    requires there { 0 < length from.old.messages }
-    requires room { 0 < to.old.room }
-    ensures { IsFirstMoved from.old.messages to.old.messages from.new.messages to.new.messages }
+/// The same of any message.
+#[inline(never)]
+fn sort_message(
+    own: &mut Queue,
+    stray: &mut Queue,
+    element: &Element<'_>,
+    home: Home,
+    letter: &mut Queue,
+)
+    requires there { 0 < length letter.old.messages }
+    requires room { 0 < own.old.room }
+    requires room_apart { 0 < stray.old.room }
+    requires number { home.number ≡ element.now.number }
+    requires count { home.count.number ≡ element.now.count }
+    ensures own { AreFor element.now own.old.messages → AreFor element.now own.new.messages }
+    ensures weight { (f : Message → ℕ)
+        → sum_by f own.new.messages + sum_by f stray.new.messages + sum_by f letter.new.messages
+        ≡ sum_by f own.old.messages + sum_by f stray.old.messages + sum_by f letter.old.messages }
+    ensures shorter { length letter.new.messages < length letter.old.messages }
 {
-    match from.token(0) {
-        Some(token) => to.push_plain_reserved(token),
-        None => to.push_back_reserved(from.message(0)),
+    let message = letter.message(0);
+    letter.remove(0);
+    if route(&message, home.count.number) == home.number && fits(element.graph(), &message) {
+        own.push_back_reserved(message);
+    } else {
+        stray.push_back_reserved(message);
     }
-    from.remove(0);
 }
 
 /// Moves those of the last so many messages of an element's own that are for others to the letters for them, and sets
