@@ -8,7 +8,7 @@ ghost use Rattle.id_why.specs.Found.{lacking};
 ghost use Rattle.id_why.specs.Walks.{AreApart, IsLineOf, asking, roots, values_of};
 
 use crate::known::{Cell, Known};
-use crate::needs::{add_lacking, add_needs};
+use crate::needs::{add_lacking, needs_of};
 use crate::things::Things;
 use id_check::Checked;
 use id_facts::{Point, RowFact, RowValue, Trail};
@@ -91,16 +91,7 @@ fn line_of(
     ensures { IfOk result (IsLineOf checked.now links.now known.now thing) }
 {
     let cells = known.asks(alloc, thing)?;
-    let mut all = Vec::new(alloc);
-    add_needs(
-        alloc,
-        &mut all,
-        checked,
-        links,
-        known,
-        thing,
-        cells.as_slice(),
-    )?;
+    let all = needs_of(alloc, checked, links, known, thing, cells.as_slice())?;
     let mut needs = Vec::new(alloc);
     add_lacking(&mut needs, known, all.as_slice())?;
     let values = values_of(alloc, known, all.as_slice())?;

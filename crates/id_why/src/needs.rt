@@ -22,25 +22,22 @@ use id_source::{
 use id_table::Node;
 use std::alloc::{AllocError, Global};
 
-/// Adds what the thing needs, which asks for these cells.
-pub fn add_needs(
+/// What the thing needs, which asks for these cells.
+pub fn needs_of(
     alloc: Global,
-    found: &mut Vec<Point>,
     checked: &Checked,
     links: &Links,
     known: &Known,
     point: Point,
     cells: &[Cell],
-) -> Result<(), AllocError>
-    ensures { OnOk result (found.new.items ≡ found.old.items
-        ++ needs checked.now links.now known.now point cells.now) }
+) -> Result<Vec<Point>, AllocError>
+    ensures { IfOk result (λ v. v.items ≡ needs checked.now links.now known.now point cells.now) }
 {
-    let node = node_of(checked, point.row);
-    add_parts(found, checked, point.path, node)?;
-    add_others(
-        alloc, found, checked, links, known, point.path, point.row, node,
-    )?;
-    add_fillers(alloc, found, checked, known, cells)
+    let mut found = Vec::new(alloc);
+    add_parts(&mut found, checked, point.path, node_of(checked, point.row))?;
+    add_others(alloc, &mut found, checked, links, known, point)?;
+    add_fillers(alloc, &mut found, checked, known, cells)?;
+    Ok(found)
 }
 
 /// Adds the thing at the row at the path.
@@ -132,20 +129,20 @@ fn add_stored(
     }
 }
 
-/// Adds what a row of this node needs beyond its own path's rows.
+/// Adds what the thing needs beyond its own path's rows.
 fn add_others(
     alloc: Global,
     found: &mut Vec<Point>,
     checked: &Checked,
     links: &Links,
     known: &Known,
-    path: Trail,
-    row: usize,
-    node: Node,
+    point: Point,
 ) -> Result<(), AllocError>
     ensures { OnOk result (found.new.items ≡ found.old.items
-        ++ others checked.now links.now known.now path row node) }
+        ++ others checked.now links.now known.now point.path point.row (node_at checked.now point.row)) }
 {
+    let Point { path, row } = point;
+    let node = node_of(checked, row);
     match node {
         Node::Name { .. } => {
             let outside = known.cells.out_of(path, far(checked, row, node));
@@ -322,7 +319,8 @@ fn add_passed_by(
 {
     match began {
         RowFact::On { path, row: call } => {
-            add_passed_at(found, checked, links, path, row, node_of(checked, call))
+            let point = Point { path, row };
+            add_passed_at(found, checked, links, point, node_of(checked, call))
         }
         _ => Ok(()),
     }
@@ -333,16 +331,16 @@ fn add_passed_at(
     found: &mut Vec<Point>,
     checked: &Checked,
     links: &Links,
-    path: Trail,
-    row: usize,
+    point: Point,
     call: Node,
 ) -> Result<(), AllocError>
-    ensures { OnOk result (found.new.items ≡ found.old.items ++ passed_at checked.now links.now path row call) }
+    ensures { OnOk result (found.new.items ≡ found.old.items
+        ++ passed_at checked.now links.now point.path point.row call) }
 {
     match call {
         Node::Call { enter, .. } => {
             let head = head_in(callee(checked, enter));
-            add_arguments_of(found, checked, links, path, row, enter, head)
+            add_arguments_of(found, checked, links, point, enter, head)
         }
         _ => Ok(()),
     }
@@ -353,18 +351,15 @@ fn add_arguments_of(
     found: &mut Vec<Point>,
     checked: &Checked,
     links: &Links,
-    path: Trail,
-    row: usize,
+    point: Point,
     enter: usize,
     head: Option<usize>,
 ) -> Result<(), AllocError>
     ensures { OnOk result (found.new.items ≡ found.old.items
-        ++ arguments_of checked.now links.now path row enter head) }
+        ++ arguments_of checked.now links.now point.path point.row enter head) }
 {
     match head {
-        Some(head) => {
-            add_arguments(found, checked, path, row, enter, head, links.args.of(enter))
-        }
+        Some(head) => add_arguments(found, checked, point, enter, head, links.args.of(enter)),
         None => Ok(()),
     }
 }
@@ -373,17 +368,16 @@ fn add_arguments_of(
 fn add_arguments(
     found: &mut Vec<Point>,
     checked: &Checked,
-    path: Trail,
-    row: usize,
+    point: Point,
     enter: usize,
     head: usize,
     args: &[usize],
 ) -> Result<(), AllocError>
     ensures { OnOk result (found.new.items ≡ found.old.items
-        ++ arguments checked.now path row enter head args.now) }
+        ++ arguments checked.now point.path point.row enter head args.now) }
 {
     for arg in args {
-        add_argument(found, path, row, enter, head, node_of(checked, *arg))?;
+        add_argument(found, point, enter, head, node_of(checked, *arg))?;
     }
     Ok(())
 }
@@ -391,21 +385,21 @@ fn add_arguments(
 /// Adds the argument of this node, if it is that for the parameter at the row.
 fn add_argument(
     found: &mut Vec<Point>,
-    path: Trail,
-    row: usize,
+    point: Point,
     enter: usize,
     head: usize,
     node: Node,
 ) -> Result<(), AllocError>
-    ensures { OnOk result (found.new.items ≡ found.old.items ++ argument_by path row enter head node) }
+    ensures { OnOk result (found.new.items ≡ found.old.items
+        ++ argument_by point.path point.row enter head node) }
 {
     match node {
         Node::Arg {
             enter: other,
             index,
             value,
-        } if other as usize == enter && is_param(row, head, index as usize) => {
-            add_row(found, path, value as usize)
+        } if other as usize == enter && is_param(point.row, head, index as usize) => {
+            add_row(found, point.path, value as usize)
         }
         _ => Ok(()),
     }
@@ -584,15 +578,8 @@ fn filler(
 {
     match fact {
         RowFact::On { path, row } => {
-            filler_at(
-                alloc,
-                checked,
-                known,
-                cell,
-                path,
-                row,
-                node_of(checked, row),
-            )
+            let point = Point { path, row };
+            filler_at(alloc, checked, known, cell, point, node_of(checked, row))
         }
         _ => Ok(None),
     }
@@ -604,16 +591,15 @@ fn filler_at(
     checked: &Checked,
     known: &Known,
     cell: Cell,
-    path: Trail,
-    row: usize,
+    point: Point,
     node: Node,
 ) -> Result<Option<Point>, AllocError>
-    ensures { IfOk result (λ o. o ≡ filler_at checked.now known.now cell path row node) }
+    ensures { IfOk result (λ o. o ≡ filler_at checked.now known.now cell point.path point.row node) }
 {
     match node {
         Node::Store { address, .. } => {
-            let may = may_fill(alloc, known, path, cell, node_of(checked, address))?;
-            Ok(some_if(may, Point { path, row }))
+            let may = may_fill(alloc, known, point.path, cell, node_of(checked, address))?;
+            Ok(some_if(may, point))
         }
         _ => Ok(None),
     }

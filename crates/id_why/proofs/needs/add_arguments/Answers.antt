@@ -10,8 +10,8 @@ loop-arg-init c = refl
 
 pub loop-arg-preserved : goal.loop-arg-preserved
 loop-arg-preserved c =
-    gathered-more (arguments c.args.checked.now c.args.path c.args.row c.args.enter c.args.head)
-    (λ m. argument_by c.args.path c.args.row c.args.enter c.args.head (node_at c.args.checked.now m)) (λ _ _. refl)
+    gathered-more (arguments c.args.checked.now c.args.point.path c.args.point.row c.args.enter c.args.head)
+    (λ m. argument_by c.args.point.path c.args.point.row c.args.enter c.args.head (node_at c.args.checked.now m)) (λ _ _. refl)
     c.args.args.now c.loop-arg.arg-index _ _ _ _ c.loop-arg-test.true
     (rw c.node_of.ensures at c.in_ok-add_argument.ensures) c.loop-arg.invariant
 
@@ -20,6 +20,6 @@ returns-in_err-add_argument c = on_ok _ c.from_residual.result c.from_residual.e
 
 pub returns : goal.returns
 returns c =
-    gathered-all (arguments c.args.checked.now c.args.path c.args.row c.args.enter c.args.head) refl c.args.args.now
+    gathered-all (arguments c.args.checked.now c.args.point.path c.args.point.row c.args.enter c.args.head) refl c.args.args.now
     c.loop-arg.arg-index _ _
     c.loop-arg-test.false c.loop-arg.invariant

@@ -5,6 +5,6 @@ use Rattle.id_why.proofs.needs.add_arguments.Given as goal
 
 abbrev pub invariant-loop-arg : goal.invariant-loop-arg
 invariant-loop-arg l =
-    l.found.items ++ arguments l.checked l.path l.row l.enter l.head (drop l.arg-index l.args) ≡ l.initial.found.items
+    l.found.items ++ arguments l.checked l.point.path l.point.row l.enter l.head (drop l.arg-index l.args) ≡ l.initial.found.items
     ++
-    arguments l.checked l.path l.row l.enter l.head l.args
+    arguments l.checked l.point.path l.point.row l.enter l.head l.args
