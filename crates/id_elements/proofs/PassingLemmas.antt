@@ -26,7 +26,7 @@ pub for_push : (e : ElementView) (own own' : List Message) (m : Message) → own
     → route_of m.payload e.count ≡ e.number → Fits e.graph m → AreFor e own → AreFor e own'
 for_push e own own' m is mine fits all =
     subst (AreFor e) (sym is)
-        (All-push (IsFor e.graph e.count e.number) own m all (record { routed = mine; fits = fits }))
+    (All-push (IsFor e.graph e.count e.number) own m all (record { routed = mine; fits = fits }))
 
 -- ---- lists
 
