@@ -47,8 +47,6 @@ ghost use Rattle.id_args.specs.Requests.{judge_words, names_log, words_read};
 ghost use Rattle.id_args.specs.Requests.{end_in_help, gives_input, input_words, is_help, is_set};
 
 mod request;
-#[cfg(test)]
-mod tests;
 mod texts;
 
 use clap::builder::ValueParser;

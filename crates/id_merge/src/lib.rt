@@ -9,7 +9,5 @@
 mod head;
 mod lines;
 mod merged;
-#[cfg(test)]
-mod tests;
 
 pub use merged::{Merged, open_merged};

@@ -1,5 +1,5 @@
-//! Worked rows of the machine and of its worker threads: calls whose answers were worked by hand from docs/GRAPH.md and
-//! docs/MACHINE.md.
+//! Worked rows of the machine, of its worker threads and of merged logs: calls whose answers were worked by hand from
+//! docs/GRAPH.md, docs/MACHINE.md and docs/RUNTIMES.md.
 //!
 //! Keeps: nothing. All of it is tests, in a crate of their own, so that no crate below is proved once more for them.
 //! Read first: `rows`.
@@ -16,6 +16,8 @@ mod graphs;
 mod kept;
 #[cfg(test)]
 mod memory;
+#[cfg(test)]
+mod merging;
 #[cfg(test)]
 mod onward;
 #[cfg(test)]

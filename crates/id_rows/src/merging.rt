@@ -1,5 +1,7 @@
-use crate::open_merged;
+//! What several logs come to, merged, whose lines are in order or not.
+
 use id_log::{Log, LogFault, Logs, read_on};
+use id_merge::open_merged;
 use std::alloc::Global;
 
 /// A text as a log, which is read in pieces of so many bytes.
