@@ -1,16 +1,21 @@
 //! How messages move between a worker's lists.
 
 ghost use Rattle.std.specs.Prelude.{◌≡◌, ◌<◌, ◌≤◌, ◌+◌, ◌++◌, [], ℕ, length};
-ghost use Rattle.std.specs.Prelude.{reverse, vec_len, OnOk};
+ghost use Rattle.std.specs.Prelude.{◌↔◌, reverse, vec_len, IsTrue, OnOk, Some};
 ghost use Rattle.std.specs.List.{sum_by};
 ghost use Rattle.id_tag.specs.declared.Message.{Message};
+ghost use Rattle.id_instr.specs.Graph.{kind_at};
+ghost use Rattle.id_tag.specs.Plains.{message_of};
+ghost use Rattle.id_step.specs.Fits.{Fits};
 ghost use Rattle.id_elements.specs.Passing.{AreFor, IsLastMoved, IsLastSent, IsSentOn};
 
 use crate::goals::{first_for_others, goal_at, goal_of};
 use crate::home::{Home, Near};
 use id_flight::Queue;
-use id_step::{Element, fits, fits_plain};
-use id_tag::route;
+use id_instr::{Dest, PortKind, kind_at};
+use id_step::{Element, fits};
+use id_tag::{Plain, PlainToken, route};
+use id_valid::Valid;
 use std::alloc::AllocError;
 
 /// Moves the messages of a letter that came out of an element's inbox: to its own, where they are for the element and
@@ -96,6 +101,35 @@ fn sort_message(
         own.push_back_reserved(message);
     } else {
         stray.push_back_reserved(message);
+    }
+}
+
+/// Whether a plain token fits a graph, as any message does: in few steps, where it carries neither a continuation nor an
+/// address.
+#[inline(always)]
+fn fits_plain(graph: &Valid, token: &PlainToken) -> bool
+    ensures { IsTrue result ↔ Fits graph.now (message_of token.now) }
+{
+    match token.value {
+        Plain::Continuation(_, _, _) | Plain::Address(_, _) => fits(graph, &token.message()),
+        value => {
+            let dest = Dest {
+                instr: token.instr,
+                port: token.port,
+            };
+            token.iteration <= token.stamp && has_kind(graph, dest, value.kind())
+        }
+    }
+}
+
+/// Whether the port exists and takes a value of this kind.
+#[inline(always)]
+fn has_kind(graph: &Valid, dest: Dest, kind: PortKind) -> bool
+    ensures { IsTrue result ↔ (kind_at graph.now.instrs dest ≡ Some kind) }
+{
+    match kind_at(graph.graph().instrs(), dest) {
+        Some(taken) => taken == kind,
+        None => false,
     }
 }
 

@@ -1,16 +1,16 @@
 //! Which messages fit a graph: what `Element::take` asks of a message, its route aside.
 
-ghost use Rattle.std.specs.Prelude.{◌≡◌, ◌↔◌, IsTrue, Some};
+ghost use Rattle.std.specs.Prelude.{◌≡◌, ◌↔◌, IsTrue};
 ghost use Rattle.id_instr.specs.declared.instr.PortKind.{PortKind};
 ghost use Rattle.id_instr.specs.declared.instr.Op.TheVariants.{Back, Merge, Store};
 ghost use Rattle.id_instr.specs.Graph.{kind_at};
-ghost use Rattle.id_tag.specs.Plains.{message_of};
+ghost use Rattle.id_tag.specs.Kinds.{kind_of};
 ghost use Rattle.id_valid.specs.Roles.{is_second, op_at};
 ghost use Rattle.id_step.specs.Fits.{AddressFits, ContinuationFits, Fits, IsCell, ReadFits, ReplyFits, held_in};
 ghost use Rattle.id_step.specs.Fits.{TakesReturn, TokenFits, WriteFits};
 
 use id_instr::{Dest, Graph, Op, Port, PortKind, kind_at};
-use id_tag::{Cell, Message, Payload, Plain, PlainToken, Tag, Value};
+use id_tag::{Cell, Message, Payload, Tag, Value};
 use id_valid::Valid;
 use id_value::is_inside;
 
@@ -35,33 +35,11 @@ pub fn fits(graph: &Valid, message: &Message) -> bool
     }
 }
 
-/// Whether a plain token fits a graph, as any message does: in few steps, where it carries neither a continuation nor an
-/// address. Takes no memory.
-#[inline(always)]
-pub fn fits_plain(graph: &Valid, token: &PlainToken) -> bool
-    ensures { IsTrue result ↔ Fits graph.now (message_of token.now) }
-{
-    match token.value {
-        Plain::Continuation(_, _, _) | Plain::Address(_, _) => fits(graph, &token.message()),
-        value => {
-            let dest = Dest {
-                instr: token.instr,
-                port: token.port,
-            };
-            token.iteration <= token.stamp && has_kind(graph.graph(), dest, value.kind())
-        }
-    }
-}
-
 /// Whether a token fits at a stamp.
 fn token_fits(graph: &Graph, stamp: u64, tag: Tag, port: Port, value: Value) -> bool
     ensures { IsTrue result ↔ TokenFits graph.now stamp tag port value }
 {
-    let dest = Dest {
-        instr: tag.instr,
-        port,
-    };
-    has_kind(graph, dest, value.kind())
+    has_kind(graph, tag, port, value)
         && tag.iteration <= stamp
         && continuation_fits(graph, stamp, tag, port, value)
         && address_fits(value)
@@ -125,12 +103,16 @@ fn address_fits(value: Value) -> bool
 }
 
 /// Whether the port exists and takes a value of this kind.
-#[inline(always)]
-fn has_kind(graph: &Graph, dest: Dest, kind: PortKind) -> bool
-    ensures { IsTrue result ↔ (kind_at graph.now.instrs dest ≡ Some kind) }
+fn has_kind(graph: &Graph, tag: Tag, port: Port, value: Value) -> bool
+    ensures { IsTrue result ↔
+        (kind_at graph.now.instrs (record { instr = tag.instr; port = port }) ≡ Some (kind_of value)) }
 {
+    let dest = Dest {
+        instr: tag.instr,
+        port,
+    };
     match kind_at(graph.instrs(), dest) {
-        Some(taken) => taken == kind,
+        Some(kind) => kind == value.kind(),
         None => false,
     }
 }

@@ -21,6 +21,6 @@ mod stretch;
 mod taking;
 
 pub use element::Element;
-pub use fitting::{fits, fits_plain, op_at};
+pub use fitting::{fits, op_at};
 pub use gate::{Gate, Handling, Open};
 pub use step::TakeError;

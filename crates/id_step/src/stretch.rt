@@ -135,14 +135,15 @@ fn turn(
     if done >= turns || position >= list.len() || most >= list.room() {
         return false;
     }
-    let Some(next) = list.token(position) else {
-        return false;
+    let next = match list.token(position) {
+        Some(next) => *next,
+        None => return false,
     };
     if next.serial != token.serial || next.element != token.element {
         return false;
     }
-    *token = *next;
     list.remove(position);
+    *token = next;
     true
 }
 
@@ -317,29 +318,7 @@ impl<'a> Storage<'a> {
             }
             _ => {}
         }
-        self.take_one_full(instr, token, stamp, near, list, gate)
-    }
-
-    /// The same in full. It is called, and not inlined, so that the arms set no operands down that they don't need.
-    #[inline(never)]
-    fn take_one_full<G: Gate>(
-        &mut self,
-        instr: &Instr,
-        token: &PlainToken,
-        stamp: u32,
-        near: &mut Near,
-        list: &mut Queue,
-        gate: &G,
-    ) -> Taken
-        requires ready { IsReady self.old instr.now token.now stamp near.old list.old }
-        requires makes { MayMake self.old }
-        requires port { two_ports instr.now.op ≡ false }
-
-        ensures became { Became result (element_at self.old) (element_at self.new) near.old.messages near.new.messages
-            list.old.messages list.new.messages token.now token.now }
-        ensures left { LeavesRoom result near.new list.new }
-    {
-        let operands = operand_of(instr.op, token);
+        let operands = operand_of(op, token);
         self.take_full(instr, token, stamp, operands, near, list, gate)
     }
 
@@ -440,30 +419,6 @@ impl<'a> Storage<'a> {
             }
             _ => {}
         }
-        self.take_two_full(instr, token, stamp, left, right, near, list, gate)
-    }
-
-    /// The same in full, called as that of one port is.
-    #[inline(never)]
-    fn take_two_full<G: Gate>(
-        &mut self,
-        instr: &Instr,
-        token: &PlainToken,
-        stamp: u32,
-        left: Plain,
-        right: Plain,
-        near: &mut Near,
-        list: &mut Queue,
-        gate: &G,
-    ) -> Taken
-        requires ready { IsReady self.old instr.now token.now stamp near.old list.old }
-        requires makes { MayMake self.old }
-        requires came { HasMet self.old instr.now token.now (operands.Two left right) }
-
-        ensures comes { ShootsFull result (operands.Two left right) self.old self.new instr.now
-            near.old.messages near.new.messages list.old.messages list.new.messages token.now token.now }
-        ensures left { LeavesRoom result near.new list.new }
-    {
         let operands = PlainOperands::Two(left, right);
         self.take_full(instr, token, stamp, operands, near, list, gate)
     }
@@ -661,7 +616,8 @@ impl<'a> Storage<'a> {
         let name = name_of(context.element, context.serial);
         let own = name_of(u32::from(token.element), u64::from(token.serial));
         let (Some(name), Some(own)) = (name, own) else {
-            return self.take_one_full(instr, token, stamp, near, list, gate);
+            let operands = operand_of(instr.op, token);
+            return self.take_full(instr, token, stamp, operands, near, list, gate);
         };
         let mark = Mark {
             position: self.log.len() as u32,

@@ -21,6 +21,9 @@ use Rattle.id_step.proofs.storage.Storage.enter.Goals as goal
 context_same : (e s : ℕ) (x : Context) → e ≡ x.element → s ≡ x.serial → record { element = e; serial = s } ≡ x
 context_same e s x one two = rw (one, two) refl
 
+pub take_full-requires-clause-came : goal.take_full-requires-clause-came
+take_full-requires-clause-came g c = (c.args.self.now.waiting, c.operand_of-operands.ensures c.args.self.now.waiting)
+
 pub send_start-requires-clause-second : goal.send_start-requires-clause-second
 send_start-requires-clause-second g c =
     let a = c.args in

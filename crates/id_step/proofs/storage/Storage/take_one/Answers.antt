@@ -24,3 +24,6 @@ ask-requires-clause-came g c =
     let x = c.in-Some-Asked in
     let w = a.self.now.waiting in
     (w, subst (λ (p : PlainFired). IsPlainFiring a.instr.now.op w w a.token.now p) x.field-0-is (x.ensures w))
+
+pub take_full-requires-clause-came : goal.take_full-requires-clause-came
+take_full-requires-clause-came g c = (c.args.self.now.waiting, c.operand_of-operands.ensures c.args.self.now.waiting)
