@@ -6,7 +6,7 @@ const dataOf = (id) => JSON.parse(by(id).textContent);
 const CLASSES = dataOf("classes"), FILE = "text.id";
 // What is shown at once of long lists and outputs; the rest on demand.
 const MOST = { colours: 60000, characters: 60000, cells: 400, rows: 300, boxes: 700, text: 1048577 };
-Object.assign(MOST, { walk: 50000, profile: 300000 });
+Object.assign(MOST, { walk: 50000, profile: 300000, orders: 40, seeds: 1000 });
 
 // An element with attributes and parts: text, or elements.
 function made(kind, attributes = {}, ...parts) {

@@ -22,6 +22,7 @@ const MEANT = [
 const DOES = [
   ["Ctrl-Enter", "runs; in the walk arrows go one event, page keys ten"],
   ["Walk", "the same run, event by event, forth and back; what it prints is hidden until it is there"],
+  ["Orders", "whether many orders of the same run print the same, and which events came when"],
   ["Profile", "how many events could go on at once"],
   ["Link", "the text and its inputs as a link; on the tab Walk with the event too"],
   ["?embed", "behind the page's address, before a #, leaves out head and foot, for a page of a course"],

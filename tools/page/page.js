@@ -73,9 +73,10 @@ const printedWords = () => ["names", "trace"].filter((name) => by(name).checked)
 
 // ---- the commands
 
-const TABS = { run: "Run", walk: "Walk", profile: "Profile", graph: "Graph", facts: "Facts", check: "Check" };
-TABS.help = "Help";
-const settings = { dot: false, triggers: false, calls: false, rounds: "100", beside: "" };
+const TABS = { run: "Run", walk: "Walk", orders: "Orders", profile: "Profile", graph: "Graph", facts: "Facts" };
+Object.assign(TABS, { check: "Check", help: "Help" });
+const TRACED = ["walk", "orders", "profile"];
+const settings = { dot: false, triggers: false, calls: false, rounds: "100", beside: "", orders: "24" };
 const runner = new Caller(), reasoner = new Caller();
 // the walk that is shown, the event to begin it with, and whether it takes the keys; and what the result is of
 let tab = "run", performed = 0, shownWalk = null, shownOther = null, walkAt = 0, walkTakesKeys = false, shownOf = null;
@@ -85,7 +86,7 @@ function wordsOf(which) {
   if (which === "graph") return ["graph", ...(settings.dot ? ["--dot"] : []), FILE];
   if (which === "facts") return ["facts", FILE, settings.rounds.trim(), ...inputWords()];
   if (which === "help") return ["help"];
-  if (which === "walk" || which === "profile") return ["run", FILE, ...inputWords(), ...settingWords(), "--trace"];
+  if (TRACED.includes(which)) return ["run", FILE, ...inputWords(), ...settingWords(), "--trace"];
   return ["run", FILE, ...inputWords(), ...settingWords(), ...printedWords()];
 }
 
@@ -104,6 +105,7 @@ function optionsOf(which) {
     return [...drawn, checkbox("dot", "print it for Graphviz")];
   }
   const named = { facts: ["rounds", "rounds ", ""], walk: ["beside", "beside it the run in the order ", "seed"] };
+  named.orders = ["orders", "beside this run those in the orders 1 to ", ""];
   if (!named[which]) return [];
   const [name, label, placeholder] = named[which];
   const field = { value: settings[name], size: "6", inputmode: "numeric", placeholder };
@@ -158,6 +160,7 @@ async function perform() {
     showPrinted(answer.printed + answer.refused);
     by("view").replaceChildren(...viewOf(which, answer, more));
     if (by("walk")) await mount(answer, more, files, number);
+    if (by("orders")) await showOrders(answer, more, files, number);
     if (which === "run") reasons(answer, files, number, 5000);
   } catch (error) {
     if (number !== performed) return;
@@ -242,7 +245,7 @@ class Slow extends Error {}
 // What a view asks of the program beside its own command.
 async function extra(which, files, answer) {
   const rounds = settings.rounds.trim();
-  if ((which === "walk" || which === "profile") && answer.printed) return runner.ask(["graph", FILE], files);
+  if (TRACED.includes(which) && answer.printed) return runner.ask(["graph", FILE], files);
   if (answer.status !== 0) return null;
   if (which === "graph" && settings.dot) return runner.ask(["graph", FILE], files);
   if (which !== "facts" || !/^\d{1,4}$/.test(rounds)) return null;
@@ -253,7 +256,7 @@ function viewOf(which, answer, more) {
   const said = answer.refused.trim();
   if (/^refused /.test(said)) return [saying(explained(said), "bad", said)];
   if (which === "run") return reportView(answer.printed, () => choose("walk", true));
-  if (which === "walk" && answer.printed) return [made("div", { id: "walk" })];
+  if ((which === "walk" || which === "orders") && answer.printed) return [made("div", { id: which })];
   if (which === "profile" && answer.printed) return profileOfRun(answer, more);
   if (answer.status !== 0) return [];
   if (which === "check") return [made("p", { class: "answer good" }, "The program accepts this text.")];
@@ -320,12 +323,16 @@ async function mount(answer, graph, files, number) {
   if (settings.beside.trim()) await mountOther(of, trace, files, number);
 }
 
-// A second walk beside the first, of the same run in the order of a seed, with one slider for both.
-async function mountOther(of, trace, files, number) {
+// The words of the same run in the order of a seed.
+function wordsInOrder(seed) {
   const words = settingWords(), at = words.indexOf("--order");
   if (at >= 0) words.splice(at, 2);
-  const run = ["run", FILE, ...inputWords(), ...words, "--order", settings.beside.trim(), "--trace"];
-  const answer = await runner.ask(run, files), lines = answer.printed.split("\n");
+  return ["run", FILE, ...inputWords(), ...words, "--order", seed, "--trace"];
+}
+
+// A second walk beside the first, of the same run in the order of a seed, with one slider for both.
+async function mountOther(of, trace, files, number) {
+  const answer = await runner.ask(wordsInOrder(settings.beside.trim()), files), lines = answer.printed.split("\n");
   const other = lines.filter((line) => EVENT.test(line));
   if (number !== performed || !shownWalk) return;
   if (!other.length || other.length > MOST.walk) {
@@ -350,6 +357,34 @@ async function mountOther(of, trace, files, number) {
   by("view").classList.add("two");
   const printed = lines.filter((line) => !EVENT.test(line)).join("\n");
   shownOther = mountWalk(root, { ...of, trace: other.join("\n"), printed, at: 0, title: `order ${settings.beside}` });
+}
+
+// The run that was just made beside those in the orders of the seeds from 1 on; Stop shows those that there are.
+async function showOrders(answer, graph, files, number) {
+  const own = fieldValue("order"), runs = [ranOf(own ? `order ${own}` : "plain", own, answer.printed)];
+  const most = Math.min(MOST.seeds, Number(settings.orders) || 0), start = performance.now();
+  const isDrawn = runs[0].instrs.length <= MOST.walk;
+  if (!isDrawn) runs[0].instrs = [];
+  try {
+    for (let seed = 1; seed <= most; seed++) {
+      const words = wordsInOrder(String(seed)), { printed, refused } = await runner.ask(
+        isDrawn ? words : words.filter((it) => it !== "--trace"), files);
+      if (number !== performed) return;
+      if (!printed) throw new Error(refused);
+      runs.push(ranOf(`order ${seed}`, String(seed), printed));
+      if (performance.now() - start > 300) showStatus(`${seed} of ${most} orders`);
+    }
+  } catch (error) {
+    if (number !== performed || !(error instanceof Ended)) throw error;
+  }
+  const walk = (run, at) => {
+    by("order").value = run.seed;
+    walkAt = at;
+    choose("walk", false, true);
+  };
+  const places = mountWalk.readListing(graph ? graph.printed : "").map((it) => it.place);
+  showStatus(`${runs.length} of ${most + 1} orders (${(performance.now() - start).toFixed(0)} ms)`);
+  by("orders").replaceChildren(...ordersView(runs, places, walk));
 }
 
 // The event at which the walk stands.

@@ -3,10 +3,11 @@
 // counts, and ends with status 1 where anything differs.
 
 const fs = require("fs"), path = require("path");
-const code = ["text.js", "report.js"].map((it) => fs.readFileSync(path.join(__dirname, it), "utf8")).join("\n");
+const read = (name) => fs.readFileSync(path.join(__dirname, name), "utf8");
+const code = ["text.js", "report.js", "orders.js"].map(read).join("\n");
 const ofTexts = "tokensOf, parametersOf, namesOf, arrayNames, placeOf, indexOf, tokenAt";
-const ofReports = "whereOf, readReport, outermost, indexesOf";
-const page = new Function(`${code}; return { ${ofTexts}, ${ofReports} };`)();
+const ofReports = "whereOf, readReport, outermost, indexesOf", ofOrders = "ranOf, toldOfOrders, eventOfColumns";
+const page = new Function(`${code}; return { ${ofTexts}, ${ofReports}, ${ofOrders} };`)();
 const COLOURS = { definition: ["def"], type: ["int", "bool"], array: ["array"], repeat: ["for", "do", "next"] };
 const tokens = (text) => page.tokensOf(text, COLOURS);
 const report = (...lines) => page.readReport(lines.join("\n") + "\n");
@@ -49,8 +50,27 @@ const CASES = [
   ["indexes at the end of the numbers",
     page.indexesOf({ low: 9223372036854775806n, high: 9223372036854775807n }, 5),
     ["9223372036854775806", "9223372036854775807"]],
+  ["an order's events", ran("1 0 token c0.0#0 12.1 3", "2 1 read s0.1[2] c0.0#0 7",
+    "3 0 write s0.1[2] 5 c0.0#1 9 fault", "fault overflow at @1:2").instrs, [12, 7, 9]],
+  ["an order's report", ran("1 0 token c0.0#0 0.0 3", "answer 3", "array @1:2 1..0").report,
+    "answer 3\narray @1:2 1..0"],
+  ["orders that print the same", page.toldOfOrders([ran("1 0 token c0.0#0 0.0 3", "answer 3"),
+    ran("1 0 token c0.0#0 0.0 3", "answer 3")]), "2 orders, each with 1 event: all print the same: answer 3."],
+  ["orders that print the same lines", page.toldOfOrders([ran("answer @1:2", "array @1:2 1..0")]),
+    "1 order: all print the same: answer @1:2, and 1 more line."],
+  ["orders of two faults", page.toldOfOrders([ran("fault a"), ran("1 0 token c0.0#0 4.0 3", "fault b")]),
+    "2 orders, with 0 to 1 event: 2 reports. A run stops at the first fault that it comes to; each that is named " +
+    "here is one of the program."],
+  ["orders that stop", page.toldOfOrders([ran("stopped", "answer none"), ran("stopped", "answer 1")]),
+    "2 orders: none came to its end; give them more steps."],
+  ["three events in six columns, of a run of two", page.eventOfColumns(2, 3, 6), [0, 0, 1, 1, -1, -1]],
+  ["four events in two columns", page.eventOfColumns(4, 4, 2), [0, 2]],
   ["a line that is none", report("answer 1", "what is this").other, ["what is this"]],
 ];
+
+function ran(...lines) {
+  return page.ranOf("order 7", "7", lines.join("\n") + "\n");
+}
 
 function both(text) {
   return [text, tokens(text)];

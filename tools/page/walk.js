@@ -1631,6 +1631,6 @@ if (typeof module !== "undefined") {
     process.stdout.write(wordsOf({ listing, trace, text }).map((line) => line + "\n").join(""));
   }
 }
-mountWalk.Run = Run;
+Object.assign(mountWalk, { Run, readListing });
 return mountWalk;
 })();
