@@ -24,7 +24,8 @@ const DOES = [
   ["Walk", "the same run, event by event, forth and back; what it prints is hidden until it is there"],
   ["Orders", "whether many orders of the same run print the same, and which events came when"],
   ["Profile", "how many events could go on at once"],
-  ["Link", "the text and its inputs as a link; on the tab Walk with the event too"],
+  ["Tests", "which runs give what they should, as those of an exercise, or of a task of one's own"],
+  ["Link", "the text, its inputs and its tests as a link; on the tab Walk with the event too"],
   ["?embed", "behind the page's address, before a #, leaves out head and foot, for a page of a course"],
 ];
 

@@ -23,28 +23,28 @@ function keep(more) {
 // Keeps the text and its words as one's own, unless it is an example's.
 function keepText() {
   if (isExample() || !textNow().trim()) return;
-  keep({ text: textNow(), words: allWords().join(" ") });
+  keep({ text: textNow(), words: allWords().join(" "), exercise: exercise && exercise.name, tests: settings.tests });
   by("own").hidden = false;
 }
 
 function loadOwn() {
-  const { text = "", words = "" } = kept();
-  load(text, wordsIn(words));
+  const { text = "", words = "", exercise: name, tests = null } = kept();
+  load(text, wordsIn(words), exerciseOf(EXAMPLES.get(name)), tests);
 }
 
 // What stood there before an example, a file or a link was chosen, for the button that undoes it.
 let undone = null;
 
 function remember() {
-  undone = { text: textNow(), words: allWords() };
+  undone = { text: textNow(), words: allWords(), exercise, tests: settings.tests };
   by("undo").hidden = false;
 }
 
 function undo() {
   if (!undone) return;
-  const { text, words } = undone;
+  const { text, words, exercise: of, tests } = undone;
   remember();
-  load(text, words);
+  load(text, words, of, tests);
   perform();
 }
 

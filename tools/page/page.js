@@ -74,15 +74,15 @@ const printedWords = () => ["names", "trace"].filter((name) => by(name).checked)
 // ---- the commands
 
 const TABS = { run: "Run", walk: "Walk", orders: "Orders", profile: "Profile", graph: "Graph", facts: "Facts" };
-Object.assign(TABS, { check: "Check", help: "Help" });
-const TRACED = ["walk", "orders", "profile"];
-const settings = { dot: false, triggers: false, calls: false, rounds: "100", beside: "", orders: "24" };
+Object.assign(TABS, { tests: "Tests", check: "Check", help: "Help" });
+const TRACED = ["walk", "orders", "profile"], UNPRINTED = ["help", "tests"];
+const settings = { dot: false, triggers: false, calls: false, rounds: "100", beside: "", orders: "24", tests: "" };
 const runner = new Caller(), reasoner = new Caller();
 // the walk that is shown, the event to begin it with, and whether it takes the keys; and what the result is of
 let tab = "run", performed = 0, shownWalk = null, shownOther = null, walkAt = 0, walkTakesKeys = false, shownOf = null;
 
 function wordsOf(which) {
-  if (which === "check") return ["check", FILE];
+  if (which === "check" || which === "tests") return ["check", FILE];
   if (which === "graph") return ["graph", ...(settings.dot ? ["--dot"] : []), FILE];
   if (which === "facts") return ["facts", FILE, settings.rounds.trim(), ...inputWords()];
   if (which === "help") return ["help"];
@@ -104,6 +104,7 @@ function optionsOf(which) {
     const drawn = [checkbox("triggers", "triggers"), checkbox("calls", "arcs between blocks")];
     return [...drawn, checkbox("dot", "print it for Graphviz")];
   }
+  if (which === "tests") return [testsField(settings.tests, setTests)];
   const named = { facts: ["rounds", "rounds ", ""], walk: ["beside", "beside it the run in the order ", "seed"] };
   named.orders = ["orders", "beside this run those in the orders 1 to ", ""];
   if (!named[which]) return [];
@@ -161,6 +162,7 @@ async function perform() {
     by("view").replaceChildren(...viewOf(which, answer, more));
     if (by("walk")) await mount(answer, more, files, number);
     if (by("orders")) await showOrders(answer, more, files, number);
+    if (which === "tests" && answer.status === 0) await showTests(files, number);
     if (which === "run") reasons(answer, files, number, 5000);
   } catch (error) {
     if (number !== performed) return;
@@ -185,14 +187,14 @@ function show(which, words, status, isBad) {
   by("view").replaceChildren();
   by("view").closest("main").classList.toggle("wide", which === "walk");
   showStatus(status, isBad);
-  by("printed-head").hidden = by("printed").hidden = which === "help";
+  by("printed-head").hidden = by("printed").hidden = UNPRINTED.includes(which);
   shownOf = which === "help" ? null : keyOf(which);
   by("older").hidden = true;
   by("linked").hidden = true;
 }
 
 // The text and the words that a result is of.
-const keyOf = (which) => [textNow(), ...wordsOf(which)].join("\u0000");
+const keyOf = (which) => [textNow(), ...wordsOf(which), which === "tests" ? settings.tests : ""].join("\u0000");
 
 function markOlder() {
   by("older").hidden = shownOf === null || shownOf === keyOf(tab);
@@ -387,6 +389,27 @@ async function showOrders(answer, graph, files, number) {
   by("orders").replaceChildren(...ordersView(runs, places, walk));
 }
 
+// What each run of the table gives.
+async function showTests(files, number) {
+  const tests = readTests(settings.tests);
+  for (const it of tests.filter((one) => !one.bad)) {
+    const { printed, refused } = await runner.ask(["run", FILE, ...it.words], files);
+    if (number !== performed) return;
+    it.given = refused.trim() || givenOf(readReport(printed));
+  }
+  const show = (words) => {
+    setWords(words);
+    choose("run", true);
+  };
+  by("view").replaceChildren(...(tests.length ? testsView(tests, show) : []));
+}
+
+function setTests(text) {
+  settings.tests = text;
+  keepText();
+  markOlder();
+}
+
 // The event at which the walk stands.
 function walkNow() {
   const slider = by("walk") && by("walk").querySelector("[data-part=slider]");
@@ -440,13 +463,18 @@ const EXAMPLES = new Map(THEMES.flatMap((theme) => theme.examples).map((it) => [
 
 function fillExamples() {
   const groups = THEMES.map(({ theme, examples }) => {
-    const options = examples.map((it) => made("option", { value: it.name }, it.name.replaceAll("_", " ")));
+    const named = (it) => it.title || it.name.replaceAll("_", " ");
+    const options = examples.map((it) => made("option", { value: it.name }, named(it)));
     return made("optgroup", { label: theme }, ...options);
   });
   by("example").append(made("option", { value: "own", id: "own" }, "your own text"), ...groups);
 }
 
-function load(text, words) {
+// Puts a text there, with its words; of an exercise with its tests, unless it comes with others.
+function load(text, words, of = null, tests = null) {
+  exercise = of;
+  settings.tests = tests !== null ? tests : of ? of.tests : "";
+  delete by("options").dataset.tab;
   by("text").value = text;
   by("text").scrollTop = 0;
   marks = [];
@@ -458,18 +486,27 @@ function load(text, words) {
 
 function loadExample(name) {
   const it = EXAMPLES.get(name);
-  if (it) load(it.text, wordsIn(it.words));
+  if (it) load(it.text, wordsIn(it.words), exerciseOf(it));
   else loadOwn();
 }
+
+// The exercise that one works at, whose task stays there while its text is written.
+let exercise = null;
+const exerciseOf = (it) => (it && it.tests ? it : null);
 
 // Which example the text is, if it is one: then its name is shown, with what it shows.
 function isExample() {
   const it = [...EXAMPLES.values()].find((one) => one.text === textNow());
   by("example").value = it ? it.name : "own";
-  const told = it ? it.told : "your own text; this browser keeps it, and so does a link.";
-  by("told").textContent = told[0].toUpperCase() + told.slice(1);
+  const own = "your own text; this browser keeps it, and so does a link.";
+  const task = exercise ? `${exercise.title}. ${exercise.told} The tab Tests says whether your text does so.` : own;
+  const told = it && it !== exercise ? it.told : task;
+  by("told").replaceChildren(...withCode(told[0].toUpperCase() + told.slice(1)));
   return it;
 }
+
+// A sentence in which code stands between backticks.
+const withCode = (text) => text.split("`").map((part, at) => (at % 2 ? made("code", {}, part) : part));
 
 // Bytes as letters that stand in a link as they are.
 function asLetters(bytes) {
@@ -514,6 +551,8 @@ async function fragment() {
     const stream = new Blob([textNow()]).stream().pipeThrough(new CompressionStream("deflate-raw"));
     found.set("text", asLetters(new Uint8Array(await new Response(stream).arrayBuffer())));
   }
+  if (exercise && !it) found.set("exercise", exercise.name);
+  if (settings.tests !== (exercise ? exercise.tests : "")) found.set("tests", settings.tests);
   found.set("words", allWords().join(" "));
   if (tab !== "run") found.set("show", tab);
   if (walkNow()) found.set("at", String(walkNow()));
@@ -524,6 +563,7 @@ async function fragment() {
 // nothing.
 async function readFragment() {
   const said = new URLSearchParams(location.hash.slice(1)), name = said.get("example"), packed = said.get("text");
+  const of = exerciseOf(EXAMPLES.get(said.get("exercise"))), tests = said.get("tests");
   by("failed").hidden = true;
   try {
     const words = said.get("words");
@@ -531,7 +571,8 @@ async function readFragment() {
       if (!EXAMPLES.has(name)) throw new Error("there is no such example");
       loadExample(name);
       if (words !== null) setWords(wordsIn(words));
-    } else if (packed !== null) load(await unpacked(packed), wordsIn(words || ""));
+      if (tests !== null) settings.tests = tests;
+    } else if (packed !== null) load(await unpacked(packed), wordsIn(words || ""), of, tests);
     else return false;
     if (Object.hasOwn(TABS, said.get("show") || "")) tab = said.get("show");
     walkAt = Number(said.get("at")) || 0;
@@ -562,7 +603,7 @@ const filesOf = (files) => Object.fromEntries(Object.entries(files).map(([name, 
 // The examples, whose files have what is printed on either stream, or the cases that .ci/play put into the page.
 function casesHere() {
   if (by("cases")) return dataOf("cases");
-  return [...EXAMPLES.values()].map((it) => {
+  return [...EXAMPLES.values()].filter((it) => !it.tests).map((it) => {
     const file = it.name + ".id";
     return { words: ["run", file, ...wordsIn(it.words)], files: { [file]: it.text }, whole: it.out };
   });

@@ -4,10 +4,11 @@
 
 const fs = require("fs"), path = require("path");
 const read = (name) => fs.readFileSync(path.join(__dirname, name), "utf8");
-const code = ["text.js", "report.js", "orders.js"].map(read).join("\n");
+const code = ["text.js", "report.js", "orders.js", "tests.js"].map(read).join("\n");
 const ofTexts = "tokensOf, parametersOf, namesOf, arrayNames, placeOf, indexOf, tokenAt";
 const ofReports = "whereOf, readReport, outermost, indexesOf", ofOrders = "ranOf, toldOfOrders, eventOfColumns";
-const page = new Function(`${code}; return { ${ofTexts}, ${ofReports}, ${ofOrders} };`)();
+const ofTests = "readTests, givenOf";
+const page = new Function(`${code}; return { ${ofTexts}, ${ofReports}, ${ofOrders}, ${ofTests} };`)();
 const COLOURS = { definition: ["def"], type: ["int", "bool"], array: ["array"], repeat: ["for", "do", "next"] };
 const tokens = (text) => page.tokensOf(text, COLOURS);
 const report = (...lines) => page.readReport(lines.join("\n") + "\n");
@@ -65,6 +66,14 @@ const CASES = [
     "2 orders: none came to its end; give them more steps."],
   ["three events in six columns, of a run of two", page.eventOfColumns(2, 3, 6), [0, 0, 1, 1, -1, -1]],
   ["four events in two columns", page.eventOfColumns(4, 4, 2), [0, 2]],
+  ["tests", page.readTests("% n\n\n a=-3  b=1 -> -2\n -> [ 1,none ]\nn=1 -> fault  overflow\nn=1").map(
+    ({ words, wanted, bad }) => [words, wanted, bad]),
+    [[["a=-3", "b=1"], "-2", null], [[], "[1, none]", null],
+      [["n=1"], "fault  overflow", "no run gives `fault  overflow`"], [[], null, "no `->`, as in `n=4 -> 10`"]]],
+  ["what runs give", [["answer 3"], ["answer none"], ["stopped", "answer 3"], ["fault bad bounds at @1:2"], matrix].map(
+    (lines) => page.givenOf(report(...lines))), ["3", "none", "stopped", "fault bad bounds", "[[5], []]"]],
+  ["a cell without a value", page.givenOf(report("answer @1:7", "array @1:7 0..2", "cell @1:7[1] = true")),
+    "[none, true, none]"],
   ["a line that is none", report("answer 1", "what is this").other, ["what is this"]],
 ];
 
