@@ -129,3 +129,31 @@ function legendOf(colours) {
   });
   return made("ul", { class: "legend" }, ...rows);
 }
+
+// The run that was just made beside those in the orders of the seeds from 1 on; Stop shows those that there are.
+async function showOrders(answer, graph, files, number) {
+  const own = fieldValue("order"), runs = [ranOf(own ? `order ${own}` : "plain", own, answer.printed)];
+  const most = Math.min(MOST.seeds, Number(settings.orders) || 0), start = performance.now();
+  const isDrawn = runs[0].instrs.length <= MOST.walk;
+  if (!isDrawn) runs[0].instrs = [];
+  try {
+    for (let seed = 1; seed <= most; seed++) {
+      const words = wordsInOrder(String(seed)).filter((it) => isDrawn || it !== "--trace");
+      const { printed, refused } = await runner.ask(words, files);
+      if (number !== performed) return;
+      if (!printed) throw new Error(refused);
+      runs.push(ranOf(`order ${seed}`, String(seed), printed));
+      if (performance.now() - start > 300) showStatus(`${seed} of ${most} orders`);
+    }
+  } catch (error) {
+    if (number !== performed || !(error instanceof Ended)) throw error;
+  }
+  const walk = (run, at) => {
+    by("order").value = run.seed;
+    walkAt = at;
+    choose("walk", false, true);
+  };
+  const places = mountWalk.readListing(graph ? graph.printed : "").map((it) => it.place);
+  showStatus(`${runs.length} of ${most + 1} orders (${(performance.now() - start).toFixed(0)} ms)`);
+  by("orders").replaceChildren(...ordersView(runs, places, walk));
+}

@@ -327,9 +327,9 @@ async function mount(answer, graph, files, number) {
 
 // The words of the same run in the order of a seed.
 function wordsInOrder(seed) {
-  const words = settingWords(), at = words.indexOf("--order");
+  const words = [...inputWords(), ...settingWords()], at = words.indexOf("--order");
   if (at >= 0) words.splice(at, 2);
-  return ["run", FILE, ...inputWords(), ...words, "--order", seed, "--trace"];
+  return ["run", FILE, ...words, "--order", seed, "--trace"];
 }
 
 // A second walk beside the first, of the same run in the order of a seed, with one slider for both.
@@ -359,55 +359,6 @@ async function mountOther(of, trace, files, number) {
   by("view").classList.add("two");
   const printed = lines.filter((line) => !EVENT.test(line)).join("\n");
   shownOther = mountWalk(root, { ...of, trace: other.join("\n"), printed, at: 0, title: `order ${settings.beside}` });
-}
-
-// The run that was just made beside those in the orders of the seeds from 1 on; Stop shows those that there are.
-async function showOrders(answer, graph, files, number) {
-  const own = fieldValue("order"), runs = [ranOf(own ? `order ${own}` : "plain", own, answer.printed)];
-  const most = Math.min(MOST.seeds, Number(settings.orders) || 0), start = performance.now();
-  const isDrawn = runs[0].instrs.length <= MOST.walk;
-  if (!isDrawn) runs[0].instrs = [];
-  try {
-    for (let seed = 1; seed <= most; seed++) {
-      const words = wordsInOrder(String(seed)), { printed, refused } = await runner.ask(
-        isDrawn ? words : words.filter((it) => it !== "--trace"), files);
-      if (number !== performed) return;
-      if (!printed) throw new Error(refused);
-      runs.push(ranOf(`order ${seed}`, String(seed), printed));
-      if (performance.now() - start > 300) showStatus(`${seed} of ${most} orders`);
-    }
-  } catch (error) {
-    if (number !== performed || !(error instanceof Ended)) throw error;
-  }
-  const walk = (run, at) => {
-    by("order").value = run.seed;
-    walkAt = at;
-    choose("walk", false, true);
-  };
-  const places = mountWalk.readListing(graph ? graph.printed : "").map((it) => it.place);
-  showStatus(`${runs.length} of ${most + 1} orders (${(performance.now() - start).toFixed(0)} ms)`);
-  by("orders").replaceChildren(...ordersView(runs, places, walk));
-}
-
-// What each run of the table gives.
-async function showTests(files, number) {
-  const tests = readTests(settings.tests);
-  for (const it of tests.filter((one) => !one.bad)) {
-    const { printed, refused } = await runner.ask(["run", FILE, ...it.words], files);
-    if (number !== performed) return;
-    it.given = refused.trim() || givenOf(readReport(printed));
-  }
-  const show = (words) => {
-    setWords(words);
-    choose("run", true);
-  };
-  by("view").replaceChildren(...(tests.length ? testsView(tests, show) : []));
-}
-
-function setTests(text) {
-  settings.tests = text;
-  keepText();
-  markOlder();
 }
 
 // The event at which the walk stands.

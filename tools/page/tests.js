@@ -57,3 +57,24 @@ function testsView(tests, show) {
   const isAll = right === tests.length;
   return [made("p", { class: "answer " + (isAll ? "good" : "bad") }, told), scrolled(rowOf(...heads), ...rows)];
 }
+
+// What each run of the table gives.
+async function showTests(files, number) {
+  const tests = readTests(settings.tests);
+  for (const it of tests.filter((one) => !one.bad)) {
+    const { printed, refused } = await runner.ask(["run", FILE, ...it.words], files);
+    if (number !== performed) return;
+    it.given = refused.trim() || givenOf(readReport(printed));
+  }
+  const show = (words) => {
+    setWords(words);
+    choose("run", true);
+  };
+  by("view").replaceChildren(...(tests.length ? testsView(tests, show) : []));
+}
+
+function setTests(text) {
+  settings.tests = text;
+  keepText();
+  markOlder();
+}
