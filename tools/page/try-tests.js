@@ -1,7 +1,7 @@
 "use strict";
 // node try-tests.js [PROGRAM ..]: does the page find that each solution of an exercise gives what its table of runs
-// says, as tools/grade does, and that the program which is to be mended doesn't? Prints the counts, and ends with status
-// 1 where anything differs. The program is the one that ./idc runs, or the one of these words.
+// says, as tools/grade does, and that the program which is to be mended doesn't? Prints the counts, and ends with
+// status 1 where anything differs. The program is the one that ./idc runs, or the one of these words.
 
 const fs = require("fs"), path = require("path"), { execFileSync, spawnSync } = require("child_process");
 const read = (...parts) => fs.readFileSync(path.join(__dirname, ...parts), "utf8");
